@@ -1,0 +1,10 @@
+pub mod Places
+pub mod Parts
+pub mod Shares
+pub mod Walk
+pub mod Totals
+pub mod Needed
+pub mod Going
+pub mod Turn
+pub mod Accepted
+pub mod Laws

@@ -1,0 +1,4 @@
+pub mod Stretch
+pub mod Assigned
+pub mod Allocation
+pub mod Laws
