@@ -4,11 +4,10 @@ use mathlib.Core.Path.{_≡_, refl, sym, ap, subst, _∙_}
 use mathlib.Core.List.{List}
 use mathlib.Core.Logic.{_⊎_, _≢_, inl, inr, ⊎-elim}
 use native.Mathlib.Omega.{arith}
-use native.Mathlib.Nat.{zero-mul, one-mul}
 use lib.ListN.{length, getD, set}
 use Rattle.std.specs.shelf.Lists.{sum}
 use Rattle.std.proofs.shelf.Lists.{getD-set-same, getD-set-other, length-set}
-use Rattle.std.proofs.shelf.Tests.{cases-order, cases-eq, cases-lt}
+use Rattle.std.proofs.shelf.Tests.{cases-order, cases-eq}
 use Rattle.allocation.specs.Stretch.{ahead, share}
 use Rattle.allocation.proofs.Parts.{part, Stands, part-le, skips, gives, needs-less, takes, apart}
 use Rattle.allocation.proofs.Shares.{share-up-to, share-is}
@@ -111,11 +110,6 @@ pub record Ready (shorts old : List ℕ) (start count : ℕ) : Type 0 where
   pub within : start < sum (unassigned shorts old)
   pub enough : count ≤ sum (unassigned shorts old)
   pub covered : (i : ℕ) → i < length shorts → getD old i 0 ≤ getD shorts i 0
-
-pub base-cases : (pass total : ℕ) → pass < 2 → (pass * total ≡ 0) ⊎ (pass * total ≡ total)
-base-cases pass total h =
-    ⊎-elim (λ (l : pass < 1). let e : pass ≡ 0 = omega arith in inl (rw e (zero-mul total)))
-    (λ (l : 1 ≤ pass). let e : pass ≡ 1 = omega arith in inr (rw e (one-mul total))) (cases-lt pass 1)
 
 -- the walk is over, at the end of the window or behind it
 module _ (shorts old : List ℕ) (start count P skip need : ℕ) (assigned : List ℕ) (ready : Ready shorts old start count) (w : Walked shorts old start count P assigned skip need) where

@@ -1,7 +1,9 @@
 // Assignment of exercised contracts to the accounts that are short, by draw.
 ghost use mathlib.Core.Path.{_≡_};
 ghost use Prim.Native.Nat.{ℕ, _+_, _-_, _<_, _≤_, min};
+ghost use mathlib.Core.Bool.{cond};
 ghost use mathlib.Core.List.{[]};
+ghost use lib.Dec.{ltb};
 ghost use lib.ListN.{length, getD};
 ghost use Rattle.std.specs.shelf.Lists.{sum};
 ghost use Rattle.draws.specs.Meaning.{behind, behind-all};
@@ -105,6 +107,13 @@ fn step_at(open_contracts: u32, skip: u32, need: u32) -> Step
     Step { passed, taken }
 }
 
+// The account at a step of the walk: down the list of accounts, then on from its top.
+fn around(at: usize, accounts: usize) -> usize
+    ensures { λ r. ⌜ r ≡ cond (ltb at accounts) at (at - accounts) ⌝ }
+{
+    if at < accounts { at } else { at - accounts }
+}
+
 // The contracts of the next draw: a block, or what is left if less.
 fn next_block(block: u32, left: u32) -> u32
     ensures { λ r. ⌜ r ≡ min block left ⌝ }
@@ -165,15 +174,14 @@ fn assign<S: Draws>(
         left -= count;
         let mut skip = start;
         let mut need = count;
-        for pass in 0..2u32 {
-            for i in 0..shorts.len() {
-                let step = step_at(shorts[i] - assigned[i], skip, need);
-                skip -= step.passed;
-                assigned[i] += step.taken;
-                need -= step.taken;
-                if need == 0 {
-                    continue 'draws;
-                }
+        for at in 0..2 * shorts.len() {
+            let i = around(at, shorts.len());
+            let step = step_at(shorts[i] - assigned[i], skip, need);
+            skip -= step.passed;
+            assigned[i] += step.taken;
+            need -= step.taken;
+            if need == 0 {
+                continue 'draws;
             }
         }
     }

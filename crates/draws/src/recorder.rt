@@ -28,7 +28,10 @@ impl Table {
         ensures all { λ r. ⌜ room r ≡ 256 ⌝ }
     {
         Table {
-            pairs: [Pair { bound: 0, answer: 0 }; PLACES],
+            pairs: [Pair {
+                bound: 0,
+                answer: 0,
+            }; PLACES],
             used: 0,
         }
     }

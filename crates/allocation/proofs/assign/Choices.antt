@@ -1,9 +1,6 @@
-use Prim.Native.Nat.{ℕ, _+_, _*_}
-use mathlib.Core.List.{List}
-use Rattle.std.specs.shelf.Lists.{sum}
-use Rattle.allocation.specs.Stretch.{ahead}
 use Rattle.allocation.proofs.Places.{unassigned}
-use Rattle.allocation.proofs.Walk.{Walked, Ready}
+use Rattle.allocation.proofs.Walk.{Walked}
+use Rattle.allocation.proofs.Stops.{stand}
 use Rattle.allocation.proofs.Going.{Going}
 use Rattle.allocation.proofs.assign.Given as given
 
@@ -13,10 +10,5 @@ Inv-draws g l = Going (g .S·Draws .meaning (l .entry .source)) (g .S·Draws .me
 abbrev pub μ-draws : given.MeasureT-draws
 μ-draws g l = l .left
 
-abbrev pub Inv-loop-pass : given.InvT-loop-pass
-Inv-loop-pass g l = Walked (l .shorts) (l .entry .assigned) (l .start) (l .count) (l .pass * sum (unassigned (l .shorts) (l .entry .assigned))) (l .assigned) (l .skip) (l .need)
-
-abbrev pub Inv-loop-i : given.InvT-loop-i
-Inv-loop-i g l = (old : List ℕ) → Ready (l .shorts) old (l .start) (l .count) →
-    Walked (l .shorts) old (l .start) (l .count) (l .pass * sum (unassigned (l .shorts) old)) (l .entry .assigned) (l .entry .skip) (l .entry .need) →
-    Walked (l .shorts) old (l .start) (l .count) (l .pass * sum (unassigned (l .shorts) old) + ahead (unassigned (l .shorts) old) (l .i)) (l .assigned) (l .skip) (l .need)
+abbrev pub Inv-loop-at : given.InvT-loop-at
+Inv-loop-at g l = Walked (l .shorts) (l .entry .assigned) (l .start) (l .count) (stand (unassigned (l .shorts) (l .entry .assigned)) (l .at)) (l .assigned) (l .skip) (l .need)
