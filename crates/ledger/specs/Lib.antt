@@ -1,0 +1,6 @@
+pub mod Replies
+pub mod Tables
+pub mod Lookups
+pub mod Listings
+pub mod Trades
+pub mod Sound

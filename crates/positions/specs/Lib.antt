@@ -1,0 +1,5 @@
+pub mod Kinds
+pub mod Cells
+pub mod Legs
+pub mod Criteria
+pub mod Rows
