@@ -1,19 +1,17 @@
 -- What every book keeps, put to use.
-use Prim.Native.Nat.{ℕ, zero, suc, _+_, _-_, _≤_, _<_}
+use Prim.Native.Nat.{ℕ, _-_, _≤_, _<_}
 use mathlib.Core.Path.{_≡_}
 use mathlib.Core.Logic.{inl, inr, ∥∥₁-elim}
 use mathlib.Core.List.{List}
 use mathlib.Core.Bool.{true}
 use native.Mathlib.Omega.{arith}
-use native.Mathlib.Bridge.{le-prop}
 use denote.Struct.Props.{props}
 use lib.Dec.{leb}
-use lib.ListN.{getD, length, replicate}
+use lib.ListN.{getD, length}
 use Rattle.std.proofs.shelf.Lists.{getD-past}
 use Rattle.std.proofs.shelf.Sums.{getD-le-sumBy}
 use Rattle.std.proofs.shelf.Tests.{cases-lt, and-parts, leb-true}
 use Rattle.positions.specs.declared.cell.Cell.{Cell}
-use Rattle.positions.specs.declared.leg.Leg.{Leg}
 use Rattle.positions.specs.Cells.{no-cell}
 use Rattle.positions.specs.Legs.{no-leg}
 use Rattle.positions.specs.Rows.{Below}
@@ -101,8 +99,9 @@ leg-valid s n f h = let w = within-parts n 1 (s .legs .count) h in f .valid (n -
 pub balanced-below : (cells : List Cell) → Balanced cells → Below cells 100_000
 balanced-below cells b j =
     elim (cases-lt j (length cells)) [
-      inl h ↦ (omega (arith, getD-le-sumBy (λ (c : Cell). c .longs) cells j no-cell h, b .1 .1), omega (arith, getD-le-sumBy (λ (c : Cell). c .shorts) cells j no-cell h, b .1 .1, b .1 .0))
-    | inr h ↦ simp getD-past (omega arith, omega arith) ]
+      | inl h ↦ (omega (arith, getD-le-sumBy (λ (c : Cell). c .longs) cells j no-cell h, b .1 .1), omega (arith, getD-le-sumBy (λ (c : Cell). c .shorts) cells j no-cell h, b .1 .1, b .1 .0))
+      | inr h ↦ simp getD-past (omega arith, omega arith)
+    ]
 
 pub series-below : (s : State) (i : ℕ) → i < 32 → Facts s → Below (cells-of s i) 100_000
 series-below s i h f = balanced-below (cells-of s i) (f .balanced i h)

@@ -1,2 +1,7 @@
 pub mod ListingLaws
 pub mod FactLaws
+pub mod KeepLaws
+pub mod CalmLaws
+pub mod TradeLaws
+pub mod TransferLaws
+pub mod PositionLaws

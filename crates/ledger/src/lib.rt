@@ -5,6 +5,7 @@ mod refusal;
 mod state;
 mod tables;
 mod trades;
+mod transfers;
 
 pub use listings::refuse_open;
 pub use lookups::is_within;

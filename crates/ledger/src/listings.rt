@@ -13,7 +13,11 @@ use positions::Right;
 pub fn refuse_open(number: u32, day: u32, size: u32, block: u32) -> Option<Refusal>
     ensures { λ r. ⌜ r ≡ first-refusal (open-checks number day size block) ⌝ }
 {
-    if !is_within(number, 1, 9_999) || !is_within(day, 1, 99_999) || !is_within(size, 1, 10_000) || !is_within(block, 1, 1_000) {
+    if !is_within(number, 1, 9_999)
+        || !is_within(day, 1, 99_999)
+        || !is_within(size, 1, 10_000)
+        || !is_within(block, 1, 1_000)
+    {
         return Some(Refusal::OutOfRange);
     }
     None
@@ -86,10 +90,14 @@ impl State {
         requires { ⌜ now self .series .count ≤ 32 ⌝ }
         ensures { λ r. ⌜ r ≡ first-refusal (series-checks (now (self .entry)) right strike expiry) ⌝ }
     {
-        if !is_within(right, 1, 2) || !is_within(strike, 1, 1_000_000) || !is_within(expiry, self.day, 99_999) {
+        if !is_within(right, 1, 2)
+            || !is_within(strike, 1, 1_000_000)
+            || !is_within(expiry, self.day, 99_999)
+        {
             return Some(Refusal::OutOfRange);
         }
-        if self.series.lists(&Contract::of_codes(right, strike, expiry)) {
+        if self.series
+            .lists(&Contract::of_codes(right, strike, expiry)) {
             return Some(Refusal::ListedAlready);
         }
         if self.series.count >= 32 {

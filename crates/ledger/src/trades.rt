@@ -19,7 +19,10 @@ impl Trade {
     fn in_range(&self) -> bool
         ensures { λ r. ⌜ r ≡ trade-in-range (now (self .entry)) ⌝ }
     {
-        is_within(self.buyer_effect, 1, 2) && is_within(self.seller_effect, 1, 2) && is_within(self.quantity, 1, 100_000) && is_within(self.price, 1, 1_000_000)
+        is_within(self.buyer_effect, 1, 2)
+            && is_within(self.seller_effect, 1, 2)
+            && is_within(self.quantity, 1, 100_000)
+            && is_within(self.price, 1, 1_000_000)
     }
 
     fn buyer_leg(&self, closed: u32) -> Leg
@@ -64,8 +67,20 @@ impl State {
         ensures { λ r. ⌜ r ≡ fill-of (now (self .entry)) (now (t .entry)) ⌝ }
     {
         let mut cells = self.cells(t.series as usize - 1);
-        let bought = place(&mut cells, t.buyer as usize - 1, Side::Buy, Effect::of_code(t.buyer_effect), t.quantity);
-        let sold = place(&mut cells, t.seller as usize - 1, Side::Sell, Effect::of_code(t.seller_effect), t.quantity);
+        let bought = place(
+            &mut cells,
+            t.buyer as usize - 1,
+            Side::Buy,
+            Effect::of_code(t.buyer_effect),
+            t.quantity,
+        );
+        let sold = place(
+            &mut cells,
+            t.seller as usize - 1,
+            Side::Sell,
+            Effect::of_code(t.seller_effect),
+            t.quantity,
+        );
         Fill {
             cells,
             bought,

@@ -63,7 +63,11 @@ impl Effect {
     pub fn of_code(code: u32) -> Effect
         ensures { λ r. ⌜ r ≡ effect-of-code code ⌝ }
     {
-        if code == 1 { Effect::Opening } else { Effect::Closing }
+        if code == 1 {
+            Effect::Opening
+        } else {
+            Effect::Closing
+        }
     }
 }
 

@@ -8,13 +8,7 @@ use crate::kinds::Effect;
 use crate::kinds::Side;
 
 // Books a leg in the cell at a place, and answers its closed part.
-pub fn place(
-    cells: &mut [Cell; 32],
-    at: usize,
-    side: Side,
-    effect: Effect,
-    quantity: u32,
-) -> u32
+pub fn place(cells: &mut [Cell; 32], at: usize, side: Side, effect: Effect, quantity: u32) -> u32
     requires { ⌜ at < 32 ⌝ ∗ ⌜ Below (now cells) 300_000 ⌝ ∗ ⌜ quantity ≤ 100_000 ⌝ }
     ensures closed { λ r. ⌜ r ≡ closing (getD (now (cells .entry)) at no-cell) side effect quantity ⌝ }
     ensures after { λ _. ⌜ now (cells .exit) ≡ placed (now (cells .entry)) at side effect quantity ⌝ }
