@@ -7,7 +7,7 @@ use mathlib.Core.Logic.{_≢_}
 use native.Mathlib.Omega.{arith}
 use lib.ListN.{getD, set, length, length-set}
 use Rattle.std.proofs.shelf.Sums.{sumBy-set}
-use Rattle.std.proofs.shelf.Tests.{leb-true, true≢false}
+use Rattle.std.proofs.shelf.Tests.{leb-true, true≢false, cond-both}
 use Rattle.std.specs.declared.option.Option.the-variants.{None}
 use Rattle.draws.specs.Checks.{first-refusal}
 use Rattle.draws.proofs.Passes.{all-pass}
@@ -27,7 +27,7 @@ use Rattle.ledger.specs.declared.state.Stage.the-variants.{Input}
 use Rattle.ledger.specs.declared.state.State.{State}
 use Rattle.ledger.specs.Tables.{cells-of, leg-of, with-cells, with-legs, leg-stepped}
 use Rattle.ledger.specs.Lookups.{has-account, has-leg}
-use Rattle.ledger.specs.Transfers.{cells-without, rebooking-of, still-there, room-for, transferred, transfer-checks, give-up-checks, given-up, confirms, take-up-checks, confirmed, rejected}
+use Rattle.ledger.specs.Transfers.{cells-without, rebooking-of, still-there, room-for, transferred, transfer-checks, give-up-checks, given-up, confirms, take-up-checks, confirmed, rejected, taken-up}
 use Rattle.ledger.specs.Sound.{Balanced, Waiting, ValidLeg, Facts}
 use Rattle.ledger.proofs.FactLaws.{Placed, account-placed, leg-valid}
 use Rattle.ledger.proofs.KeepLaws.{facts-cells, facts-legs}
@@ -151,3 +151,10 @@ facts-rejected s n f h = facts-stepped s n Reject f h
 
 pub facts-given-up : (s : State) (n participant : ℕ) → Facts s → has-leg s n ≡ true → Facts (given-up s n participant)
 facts-given-up s n participant f h = facts-stepped s n (GiveUp participant) f h
+
+-- what a take-up leaves, confirmed or rejected
+pub facts-taken-up : (s : State) (n answer account : ℕ) → Facts s → s .stage ≡ Input → first-refusal (take-up-checks s n answer account) ≡ None → Facts (taken-up s n answer account)
+facts-taken-up s n answer account f input h =
+    cond-both (confirms answer) (confirmed s n account) (rejected s n) Facts
+    (λ on. facts-confirmed s n account f input (confirmable s n answer account h on))
+    (λ off. facts-rejected s n f (take-up-leg s n answer account h))

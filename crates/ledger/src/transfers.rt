@@ -7,7 +7,7 @@ ghost use Rattle.positions.specs.Kinds.{side-of-code};
 ghost use Rattle.positions.specs.Legs.{open-part};
 ghost use Rattle.ledger.specs.Tables.{cell-at, leg-of};
 ghost use Rattle.ledger.specs.Lookups.{has-account, has-series, has-leg, another-of-same, within};
-ghost use Rattle.ledger.specs.Transfers.{rebooking-of, still-there, room-for, transferred, transfer-checks, give-up-checks, given-up, take-up-checks, confirmed, rejected, position-checks, moved-cells, position-moved};
+ghost use Rattle.ledger.specs.Transfers.{rebooking-of, still-there, room-for, transferred, transfer-checks, give-up-checks, given-up, confirms, take-up-checks, confirmed, rejected, taken-up, position-checks, moved-cells, position-moved};
 ghost use Rattle.ledger.specs.Sound.{Facts, ValidLeg};
 use crate::lookups::is_free;
 use crate::lookups::is_held_for;
@@ -181,7 +181,7 @@ impl State {
     }
 
     // Books the held leg anew in the account, and frees it.
-    pub fn confirm(&mut self, leg: u32, account: u32)
+    fn confirm(&mut self, leg: u32, account: u32)
         requires sound { ⌜ Facts (now self) ⌝ }
         requires known { ⌜ has-account (now self) account ≡ true ⌝ }
         requires leg { ⌜ has-leg (now self) leg ≡ true ⌝ }
@@ -193,12 +193,27 @@ impl State {
     }
 
     // Frees the held leg.
-    pub fn reject(&mut self, leg: u32)
+    fn reject(&mut self, leg: u32)
         requires sound { ⌜ Facts (now self) ⌝ }
         requires leg { ⌜ has-leg (now self) leg ≡ true ⌝ }
         ensures { λ _. ⌜ now (self .exit) ≡ rejected (now (self .entry)) leg ⌝ }
     {
         self.legs.step(leg as usize - 1, LegEvent::Reject);
+    }
+
+    // Confirms the held leg for the account, or rejects it.
+    pub fn take_up(&mut self, leg: u32, answer: u32, account: u32)
+        requires sound { ⌜ Facts (now self) ⌝ }
+        requires leg { ⌜ has-leg (now self) leg ≡ true ⌝ }
+        requires known { ⌜ (confirms answer ≡ true → has-account (now self) account ≡ true) ⌝ }
+        requires enough { ⌜ (confirms answer ≡ true → still-there (now self) (leg-of (now self) leg) ≡ true) ⌝ }
+        ensures { λ _. ⌜ now (self .exit) ≡ taken-up (now (self .entry)) leg answer account ⌝ }
+    {
+        if answer == 1 {
+            self.confirm(leg, account);
+        } else {
+            self.reject(leg);
+        }
     }
 
     // Why a position transfer is turned back, if it is.
