@@ -1,1 +1,4 @@
 pub mod PassLaws
+pub mod BalanceLaws
+pub mod CountLaws
+pub mod RegisterLaws

@@ -1,2 +1,6 @@
 pub mod Calls
 pub mod Opened
+pub mod Register
+pub mod Performed
+pub mod Balance
+pub mod Law

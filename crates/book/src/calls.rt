@@ -27,12 +27,7 @@ fn fits_input(state: &State, pass: &InputPass) -> bool
 
 impl Book {
     // Opens a book, with its first pass.
-    pub fn open(
-        number: u32,
-        day: u32,
-        size: u32,
-        block: u32,
-    ) -> Result<(Book, InputPass), Refusal>
+    pub fn open(number: u32, day: u32, size: u32, block: u32) -> Result<(Book, InputPass), Refusal>
         ensures { λ r. ⌜ opened r ≡ open-call number day size block ⌝ }
     {
         match refuse_open(number, day, size, block) {
@@ -47,12 +42,7 @@ impl Book {
     }
 
     // Adds an account, and answers its number.
-    pub fn account(
-        &mut self,
-        pass: &InputPass,
-        participant: u32,
-        code: u32,
-    ) -> Result<u32, Refusal>
+    pub fn account(&mut self, pass: &InputPass, participant: u32, code: u32) -> Result<u32, Refusal>
         ensures reply { λ r. ⌜ r ≡ account-call (now (self .entry) .state) (now (pass .entry)) participant code .reply ⌝ }
         ensures after { λ _. ⌜ now (self .exit) .state ≡ account-call (now (self .entry) .state) (now (pass .entry)) participant code .state ⌝ }
     {
@@ -122,12 +112,7 @@ impl Book {
     }
 
     // Holds a free leg for another participant.
-    pub fn give_up(
-        &mut self,
-        pass: &InputPass,
-        leg: u32,
-        participant: u32,
-    ) -> Result<u32, Refusal>
+    pub fn give_up(&mut self, pass: &InputPass, leg: u32, participant: u32) -> Result<u32, Refusal>
         ensures reply { λ r. ⌜ r ≡ give-up-call (now (self .entry) .state) (now (pass .entry)) leg participant .reply ⌝ }
         ensures after { λ _. ⌜ now (self .exit) .state ≡ give-up-call (now (self .entry) .state) (now (pass .entry)) leg participant .state ⌝ }
     {

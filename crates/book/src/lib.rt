@@ -1,9 +1,16 @@
+// The day book of one underlying stock: who may call what when, every call with its whole outcome, and the law that
+// holders and writers stay equal whatever is called.
 mod book;
 mod calls;
 mod pass;
+mod perform;
 
 pub use book::Book;
 pub use pass::AssignedPass;
 pub use pass::CutPass;
 pub use pass::InputPass;
 pub use pass::Pass;
+pub use perform::Call;
+pub use perform::Done;
+pub use perform::InputCall;
+pub use perform::Opening;

@@ -8,7 +8,7 @@ use Rattle.std.specs.declared.option.Option.{Option}
 use Rattle.std.specs.declared.option.Option.the-variants.{Some, None}
 use Rattle.draws.specs.Checks.{unless, first-refusal, AllPass}
 
-unless-none : {R : Type 0} (b : Bool) (r : R) (rest : Option R) → unless b r rest ≡ None → (b ≡ true) × (rest ≡ None)
+pub unless-none : {R : Type 0} (b : Bool) (r : R) (rest : Option R) → unless b r rest ≡ None → (b ≡ true) × (rest ≡ None)
 unless-none true r rest e = (refl, e)
 unless-none false r rest e = let z : _≡_ {A = ℕ} 0 1 = cc e in absurd (omega arith)
 
