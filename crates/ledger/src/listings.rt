@@ -96,8 +96,8 @@ impl State {
         {
             return Some(Refusal::OutOfRange);
         }
-        if self.series
-            .lists(&Contract::of_codes(right, strike, expiry)) {
+        let contract = Contract::of_codes(right, strike, expiry);
+        if self.series.lists(&contract) {
             return Some(Refusal::ListedAlready);
         }
         if self.series.count >= 32 {

@@ -129,9 +129,10 @@ impl State {
         ensures after { λ _. ⌜ now (self .exit) ≡ traded (now (self .entry)) (now (t .entry)) ⌝ }
     {
         let fill = self.fill(t);
-        let first = self.legs.push(t.buyer_leg(fill.bought));
-        self.legs.push(t.seller_leg(fill.sold));
+        let (first, second) = (t.buyer_leg(fill.bought), t.seller_leg(fill.sold));
+        let number = self.legs.push(first);
+        self.legs.push(second);
         self.put_cells(t.series as usize - 1, fill.cells);
-        first
+        number
     }
 }
