@@ -1,0 +1,6 @@
+pub mod Lines
+pub mod Parts
+pub mod Grammar
+pub mod Texts
+pub mod Statements
+pub mod Rewrites
