@@ -35,12 +35,32 @@ use Rattle.book.specs.declared.perform.Opening.{Opening}
 use Rattle.book.specs.declared.perform.InputCall.{InputCall}
 use Rattle.book.specs.declared.perform.InputCall.the-variants.{AddAccount, ListSeries, BookTrade, TransferTrade, GiveUpLeg, TakeUpLeg, TransferPosition}
 use Rattle.book.specs.declared.perform.Call.{Call}
-use Rattle.book.specs.declared.perform.Call.the-variants.{Open, OfInput}
+use Rattle.book.specs.declared.perform.ExerciseCall.{ExerciseCall}
+use Rattle.book.specs.declared.perform.ExerciseCall.the-variants.{RequestExercise, RejectRequest, SetCriterion, DenyExercise, FixPrice, LodgeShares, WithdrawShares, CloseTrading}
+use Rattle.book.specs.declared.perform.Call.the-variants.{Open, OfInput, OfExercise, CutOff, Assign, GiveStatement, BeginDay}
+use Rattle.book.specs.declared.pass.CutPass.{CutPass}
+use Rattle.book.specs.declared.pass.AssignedPass.{AssignedPass}
+use Rattle.book.specs.Stages.{fits-cut, fits-assigned, kept-or, replied-with, cut-refusal, assignment-refusal, statement-refusal, next-day-refusal}
+use Rattle.ledger.specs.declared.state.Stage.the-variants.{Cut}
+use Rattle.ledger.specs.Requests.{request-checks, request-added, rejection-checks, request-rejected, denial-checks, denial-noted}
+use Rattle.ledger.specs.Criteria.{criterion-checks, criterion-set, fixing-checks, price-fixed, trading-closed, lodge-checks, lodged, withdrawal-checks, collateral-withdrawn}
+use Rattle.ledger.specs.Cutoff.{cut-checks, cut}
+use Rattle.ledger.specs.Assignment.{needed, assignment-checks, assigning, assigned-state}
+use Rattle.ledger.specs.Statement.{places-needed}
+use Rattle.ledger.specs.NextDay.{next-day-checks, next-day}
+use Rattle.ledger.proofs.RequestLaws.{requestable, facts-requested, facts-request-rejected, deniable, facts-denied}
+use Rattle.ledger.proofs.CriteriaLaws.{facts-criterion, facts-fixed, facts-closed, lodgeable, facts-lodged, facts-withdrawn}
+use Rattle.ledger.proofs.CutLaws.{facts-cut}
+use Rattle.ledger.proofs.AssignedLaws.{facts-assigned}
+use Rattle.ledger.proofs.NextDayLaws.{is-later, facts-next-day}
+use Rattle.draws.specs.Meaning.{Below}
+use Rattle.draws.proofs.Passes.{unless-none}
+use Rattle.book.proofs.StageCounts.{tied-denied, tied-criterion, tied-cut, tied-next-day, tied-assigned}
 use Rattle.book.specs.Calls.{refused, outcome}
-use Rattle.book.specs.Register.{input-answer, answer, Entry, replied, given, Truthful}
-use Rattle.book.specs.Balance.{Count, input-counted, counted, count, leg-counted}
+use Rattle.book.specs.Register.{input-answer, exercise-answer, answer, Entry, replied, given, Truthful}
+use Rattle.book.specs.Balance.{Count, input-counted, counted, count, leg-counted, assignment-counted}
 use Rattle.book.specs.Law.{Law, Closing-example}
-use Rattle.book.proofs.PassLaws.{passed}
+use Rattle.book.proofs.PassLaws.{passed, cut-stage, enough-draws}
 use Rattle.book.proofs.BalanceLaws.{Tied}
 use Rattle.book.proofs.CountLaws.{tied-opening, tied-account, tied-series, tied-traded, tied-transferred, tied-stepped, tied-moved}
 
@@ -135,26 +155,80 @@ module _ (s : State) (y : Count) (p : InputPass) (k : Kept y s) where
       let m = transferable s t (g .1) in
       record { tied = tied-moved y s t (k .sound) (g .0) (k .tied) m; sound = facts-moved s t (k .sound) (g .0) m }) e
 
-step : (s : State) (y : Count) (m : Meaning) (p : Pass) (c : Call) (reply : Reply) → Kept y s → reply ≡ replied (answer s m p c .reply) → Kept (cond (eqb (reply .number) 0) (counted c y) y) (answer s m p c .state)
-step s y m p (Open o) reply k e = by-misfit s y _ reply k e
-step s y m (ForInput p) (OfInput c) reply k e = input-step s y p k c reply e
-step s y m (ForCut p) (OfInput c) reply k e = by-misfit s y _ reply k e
-step s y m (ForAssigned p) (OfInput c) reply k e = by-misfit s y _ reply k e
+-- a call on exercise, in the same stage; the balance stays
+module _ (s : State) (y : Count) (p : InputPass) (k : Kept y s) where
+  abbrev same : Tied y s
+  same = k .tied
 
-pub always : (o : Opening) (r : List Entry) → Truthful o r → Kept (count r) (given o r)
+  exercise-step : (c : ExerciseCall) (reply : Reply) → reply ≡ replied (exercise-answer s p c .reply) → Kept (cond (eqb (reply .number) 0) y y) (exercise-answer s p c .state)
+  exercise-step (RequestExercise a i q) reply e =
+      by-outcome (refused s p (request-checks s a i q)) s _ (s .requests .count + 1) y _ reply k
+      (λ h. record { tied = record { cells = same .cells; legs = same .legs }; sound = facts-requested s a i q (k .sound) (requestable s a i q (passed s p (request-checks s a i q) h .1)) }) e
+  exercise-step (RejectRequest n) reply e =
+      by-outcome (refused s p (rejection-checks s n)) s _ 0 y _ reply k (λ h. record { tied = record { cells = same .cells; legs = same .legs }; sound = facts-request-rejected s n (k .sound) }) e
+  exercise-step (SetCriterion account right form value) reply e =
+      by-outcome (refused s p (criterion-checks s account right form value)) s _ 0 y _ reply k (λ h. record { tied = tied-criterion y s account right form value same; sound = facts-criterion s account right form value (k .sound) }) e
+  exercise-step (DenyExercise a i q) reply e =
+      by-outcome (refused s p (denial-checks s a i q)) s _ 0 y _ reply k
+      (λ h. let d = deniable s a i q (passed s p (denial-checks s a i q) h .1) in record { tied = tied-denied y s a i q (k .sound) d same; sound = facts-denied s a i q (k .sound) d }) e
+  exercise-step (FixPrice price) reply e =
+      by-outcome (refused s p (fixing-checks price)) s _ 0 y _ reply k (λ h. record { tied = record { cells = same .cells; legs = same .legs }; sound = facts-fixed s price (k .sound) }) e
+  exercise-step (LodgeShares a n) reply e =
+      by-outcome (refused s p (lodge-checks s a n)) s _ 0 y _ reply k
+      (λ h. record { tied = record { cells = same .cells; legs = same .legs }; sound = facts-lodged s a n (k .sound) (lodgeable s a n (passed s p (lodge-checks s a n) h .1)) }) e
+  exercise-step (WithdrawShares a n) reply e =
+      by-outcome (refused s p (withdrawal-checks s a n)) s _ 0 y _ reply k (λ h. record { tied = record { cells = same .cells; legs = same .legs }; sound = facts-withdrawn s a n (k .sound) }) e
+  exercise-step CloseTrading reply e =
+      by-outcome (refused s p []) s _ 0 y _ reply k (λ h. record { tied = record { cells = same .cells; legs = same .legs }; sound = facts-closed s (k .sound) }) e
+
+-- a call that ends its stage
+by-end : (o : Option Refusal) (s t : State) (n : ℕ) (y : Count) (x : State → Count) (reply : Reply) → Kept y s → (o ≡ None → Kept (x t) t) → reply ≡ replied (replied-with o n) → Kept (cond (eqb (reply .number) 0) (x (kept-or o s t)) y) (kept-or o s t)
+by-end None s t n y x reply old new e = subst (λ (k : Reply). Kept (cond (eqb (k .number) 0) (x t) y) t) (sym e) (new refl)
+by-end (Some r) s t n y x reply old new e = subst (λ (z : Count). Kept z s) (sym (cond-false (eqb (reply .number) 0) (x s) y (ap (λ (k : Reply). eqb (k .number) 0) e ∙ nonzero r))) old
+
+same-count : (b : Bool) (y : Count) (s : State) → Kept y s → Kept (cond b y y) s
+same-count true y s k = k
+same-count false y s k = k
+
+-- one call more
+step : (s : State) (y : Count) (m : Meaning) (room : ℕ) (p : Pass) (c : Call) (reply : Reply) → Below m → Kept y s → reply ≡ replied (answer s m room p c .reply) → Kept (cond (eqb (reply .number) 0) (counted c s (answer s m room p c .state) y) y) (answer s m room p c .state)
+step s y m room (ForInput p) (Open o) reply b k e = by-misfit s y _ reply k e
+step s y m room (ForInput p) (OfInput c) reply b k e = input-step s y p k c reply e
+step s y m room (ForInput p) (OfExercise c) reply b k e = exercise-step s y p k c reply e
+step s y m room (ForInput p) CutOff reply b k e =
+    by-end (cut-refusal s p) s (cut s) 0 y (λ t. y) reply k
+    (λ h. record { tied = tied-cut y s (k .tied); sound = facts-cut s (k .sound) (passed s p (cut-checks s) h .0) }) e
+step s y m room (ForInput p) Assign reply b k e = by-misfit s y _ reply k e
+step s y m room (ForInput p) GiveStatement reply b k e = by-misfit s y _ reply k e
+step s y m room (ForInput p) (BeginDay day) reply b k e = by-misfit s y _ reply k e
+step s y m room (ForCut p) (Open o) reply b k e = by-misfit s y _ reply k e
+step s y m room (ForCut p) (OfInput c) reply b k e = by-misfit s y _ reply k e
+step s y m room (ForCut p) (OfExercise c) reply b k e = by-misfit s y _ reply k e
+step s y m room (ForCut p) CutOff reply b k e = by-misfit s y _ reply k e
+step s y m room (ForCut p) Assign reply b k e =
+    by-end (assignment-refusal s p m) s (assigned-state s m) (needed s) y (λ t. assignment-counted s t y) reply k
+    (λ h.
+    let u = unless-none (fits-cut s p) PassMisfit (first-refusal (assignment-checks s m)) h in
+    let g = cut-stage s p (u .0) in
+    let d = enough-draws s m (u .1) in
+    record { tied = tied-assigned y s m (k .sound) g b d (k .tied); sound = facts-assigned s m (k .sound) g b d }) e
+step s y m room (ForCut p) GiveStatement reply b k e = by-misfit s y _ reply k e
+step s y m room (ForCut p) (BeginDay day) reply b k e = by-misfit s y _ reply k e
+step s y m room (ForAssigned p) (Open o) reply b k e = by-misfit s y _ reply k e
+step s y m room (ForAssigned p) (OfInput c) reply b k e = by-misfit s y _ reply k e
+step s y m room (ForAssigned p) (OfExercise c) reply b k e = by-misfit s y _ reply k e
+step s y m room (ForAssigned p) CutOff reply b k e = by-misfit s y _ reply k e
+step s y m room (ForAssigned p) Assign reply b k e = by-misfit s y _ reply k e
+step s y m room (ForAssigned p) GiveStatement reply b k e = same-count (eqb (reply .number) 0) y s k
+step s y m room (ForAssigned p) (BeginDay day) reply b k e =
+    by-end (next-day-refusal s p day) s (next-day s day) 0 y (λ t. record { balance = y .balance; legs = [] }) reply k
+    (λ h.
+    let u = unless-none (fits-assigned s p) PassMisfit (first-refusal (next-day-checks s day)) h in
+    record { tied = tied-next-day y s day (k .tied); sound = facts-next-day s day (k .sound) (is-later s day (u .1)) }) e
+
+pub always : (o : Opening) (r : List Entry) → Truthful o r → Kept (count o r) (given o r)
 always o [] h = record { tied = tied-opening (o .number) (o .day) (o .size) (o .block); sound = facts-opened (o .number) (o .day) (o .size) (o .block) h }
-always o (e ∷ r) h = step (given o r) (count r) (e .before) (e .pass) (e .call) (e .reply) (always o r (h .3)) (h .0)
-
-pub law : Law
-law o r s l =
-    let k = subst (λ (t : State). Kept (count r) t) (sym (l .shows)) (always o r (l .replies)) in
-    let f = k .sound in
-    record {
-      even = λ i n. f .balanced (i - 1) (omega (arith, n .0, n .1, f .tables .0 .1)) .1 .0;
-      balanced = λ a i b n.
-          let d = k .tied .cells i (n .0) (omega (arith, n .1, f .tables .0 .1)) a (b .0) (omega (arith, b .1, f .tables .0 .0)) in
-          omega (arith, ints, d);
-    }
+always o (e ∷ r) h = step (given o r) (count o r) (e .before) (e .room) (e .pass) (e .call) (e .reply) (h .0 .below) (always o r (h .1)) (h .0 .reply)
 
 pub closing-example : Closing-example
 closing-example c none four = (omega (arith, none, four), omega (arith, none, four))

@@ -10,13 +10,16 @@ use Rattle.positions.specs.declared.kinds.Side.the-variants.{Buy, Sell}
 use Rattle.positions.specs.Kinds.{side-of-code}
 use Rattle.ledger.specs.declared.state.Trade.{Trade}
 use Rattle.ledger.specs.declared.state.PositionTransfer.{PositionTransfer}
+use Rattle.ledger.specs.declared.state.State.{State}
+use Rattle.ledger.specs.Tables.{cell-at}
+use Rattle.ledger.specs.Requests.{expiring}
 use Rattle.ledger.specs.Transfers.{confirms}
 use Rattle.book.specs.declared.perform.Opening.{Opening}
 use Rattle.book.specs.declared.perform.InputCall.{InputCall}
 use Rattle.book.specs.declared.perform.InputCall.the-variants.{AddAccount, ListSeries, BookTrade, TransferTrade, GiveUpLeg, TakeUpLeg, TransferPosition}
 use Rattle.book.specs.declared.perform.Call.{Call}
-use Rattle.book.specs.declared.perform.Call.the-variants.{Open, OfInput}
-use Rattle.book.specs.Register.{Entry}
+use Rattle.book.specs.declared.perform.Call.the-variants.{Open, OfInput, OfExercise, CutOff, Assign, GiveStatement, BeginDay}
+use Rattle.book.specs.Register.{Entry, given}
 
 -- a leg as the register lists it
 pub record Listed : Type 0 where
@@ -78,11 +81,25 @@ input-counted (GiveUpLeg leg participant) y = y
 input-counted (TakeUpLeg leg answer account) y = cond (confirms answer) (leg-counted leg account y) y
 input-counted (TransferPosition t) y = position-counted t y
 
-abbrev pub counted : Call → Count → Count
-counted (Open o) y = y
-counted (OfInput c) y = input-counted c y
+-- an assignment takes off what is exercised and adds what is assigned, as the rules give them; a series that expires
+-- today then goes to 0
+abbrev pub assignment-counted : State → State → Count → Count
+assignment-counted s t y = record {
+  balance = λ a i. cond (expiring s i) (pos 0) ((y .balance a i +ℤ negℤ (pos (cell-at t a i .exercised))) +ℤ pos (cell-at t a i .assigned));
+  legs = y .legs;
+}
+
+-- an accepted call, with the states that the rules give before and after it; the next day empties the list of legs
+abbrev pub counted : Call → State → State → Count → Count
+counted (Open o) s t y = y
+counted (OfInput c) s t y = input-counted c y
+counted (OfExercise c) s t y = y
+counted CutOff s t y = y
+counted Assign s t y = assignment-counted s t y
+counted GiveStatement s t y = y
+counted (BeginDay day) s t y = record { balance = y .balance; legs = [] }
 
 -- at first every balance is 0 and no leg is listed; a call turned back changes nothing
-abbrev pub count : List Entry → Count
-count [] = record { balance = λ a i. pos 0; legs = [] }
-count (e ∷ r) = cond (eqb (e .reply .number) 0) (counted (e .call) (count r)) (count r)
+abbrev pub count : Opening → List Entry → Count
+count o [] = record { balance = λ a i. pos 0; legs = [] }
+count o (e ∷ r) = cond (eqb (e .reply .number) 0) (counted (e .call) (given o r) (given o (e ∷ r)) (count o r)) (count o r)

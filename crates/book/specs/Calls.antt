@@ -18,6 +18,8 @@ use Rattle.ledger.specs.declared.state.PositionTransfer.{PositionTransfer}
 use Rattle.ledger.specs.Listings.{account-checks, account-added, series-checks, series-added}
 use Rattle.ledger.specs.Trades.{trade-checks, traded}
 use Rattle.ledger.specs.Transfers.{transfer-checks, transferred, give-up-checks, given-up, take-up-checks, taken-up, position-checks, position-moved}
+use Rattle.ledger.specs.Requests.{request-checks, request-added, rejection-checks, request-rejected, denial-checks, denial-noted}
+use Rattle.ledger.specs.Criteria.{criterion-checks, criterion-set, fixing-checks, price-fixed, trading-closed, lodge-checks, lodged, withdrawal-checks, collateral-withdrawn}
 use Rattle.book.specs.declared.pass.InputPass.{InputPass}
 
 abbrev pub in-input : Stage → Bool
@@ -63,3 +65,28 @@ take-up-call s p leg answer account = outcome (refused s p (take-up-checks s leg
 
 abbrev pub position-call : State → InputPass → PositionTransfer → Outcome
 position-call s p t = outcome (refused s p (position-checks s t)) s 0 (position-moved s t)
+
+-- the result is the request's number
+abbrev pub request-call : State → InputPass → ℕ → ℕ → ℕ → Outcome
+request-call s p account series quantity = outcome (refused s p (request-checks s account series quantity)) s (s .requests .count + 1) (request-added s account series quantity)
+
+abbrev pub rejection-call : State → InputPass → ℕ → Outcome
+rejection-call s p request = outcome (refused s p (rejection-checks s request)) s 0 (request-rejected s request)
+
+abbrev pub denial-call : State → InputPass → ℕ → ℕ → ℕ → Outcome
+denial-call s p account series quantity = outcome (refused s p (denial-checks s account series quantity)) s 0 (denial-noted s account series quantity)
+
+abbrev pub criterion-call : State → InputPass → ℕ → ℕ → ℕ → ℕ → Outcome
+criterion-call s p account right form value = outcome (refused s p (criterion-checks s account right form value)) s 0 (criterion-set s account right form value)
+
+abbrev pub fixing-call : State → InputPass → ℕ → Outcome
+fixing-call s p price = outcome (refused s p (fixing-checks price)) s 0 (price-fixed s price)
+
+abbrev pub lodge-call : State → InputPass → ℕ → ℕ → Outcome
+lodge-call s p account shares = outcome (refused s p (lodge-checks s account shares)) s 0 (lodged s account shares)
+
+abbrev pub withdrawal-call : State → InputPass → ℕ → ℕ → Outcome
+withdrawal-call s p account shares = outcome (refused s p (withdrawal-checks s account shares)) s 0 (collateral-withdrawn s account shares)
+
+abbrev pub closing-call : State → InputPass → Outcome
+closing-call s p = outcome (refused s p []) s 0 (trading-closed s)

@@ -1,5 +1,6 @@
 pub mod Calls
 pub mod Opened
+pub mod Stages
 pub mod Register
 pub mod Performed
 pub mod Balance

@@ -15,7 +15,7 @@ use ledger::Trade;
 use ledger::refuse_open;
 
 // Whether the pass is of this book, of this day and of its stage.
-fn fits_input(state: &State, pass: &InputPass) -> bool
+pub(crate) fn fits_input(state: &State, pass: &InputPass) -> bool
     ensures { λ r. ⌜ r ≡ fits-input (now (state .entry)) (now (pass .entry)) ⌝ }
 {
     match state.stage {

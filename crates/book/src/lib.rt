@@ -2,8 +2,10 @@
 // holders and writers stay equal whatever is called.
 mod book;
 mod calls;
+mod exercise;
 mod pass;
 mod perform;
+mod stages;
 
 pub use book::Book;
 pub use pass::AssignedPass;
@@ -12,5 +14,6 @@ pub use pass::InputPass;
 pub use pass::Pass;
 pub use perform::Call;
 pub use perform::Done;
+pub use perform::ExerciseCall;
 pub use perform::InputCall;
 pub use perform::Opening;

@@ -6,3 +6,11 @@ pub mod OpenLaws
 pub mod TradeLaws
 pub mod TransferLaws
 pub mod PositionLaws
+pub mod RequestLaws
+pub mod CriteriaLaws
+pub mod AssignLaws
+pub mod AssignedLaws
+pub mod CutSteps
+pub mod CutLaws
+pub mod NextDayLaws
+pub mod StatementLaws

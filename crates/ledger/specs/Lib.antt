@@ -4,4 +4,10 @@ pub mod Lookups
 pub mod Listings
 pub mod Trades
 pub mod Transfers
+pub mod Assignment
 pub mod Sound
+pub mod Requests
+pub mod Criteria
+pub mod Cutoff
+pub mod NextDay
+pub mod Statement

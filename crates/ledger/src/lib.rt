@@ -1,8 +1,14 @@
 // The state of a day book, the checks of each call and what it does. Who may call, and when, is the book's business.
+mod assignment;
+mod criteria;
+mod cutoff;
 mod listings;
 mod lookups;
+mod next_day;
 mod refusal;
+mod requests;
 mod state;
+mod statement;
 mod tables;
 mod trades;
 mod transfers;

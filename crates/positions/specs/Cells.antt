@@ -1,10 +1,13 @@
 -- One account's contracts in one series.
 use Prim.Native.Nat.{ℕ, _+_, _-_, min}
+use mathlib.Core.Bool.{Bool, cond}
 use Rattle.positions.specs.declared.kinds.Side.{Side}
 use Rattle.positions.specs.declared.kinds.Side.the-variants.{Buy, Sell}
 use Rattle.positions.specs.declared.kinds.Effect.{Effect}
 use Rattle.positions.specs.declared.kinds.Effect.the-variants.{Opening, Closing}
+use Rattle.positions.specs.declared.kinds.AccountType.{AccountType}
 use Rattle.positions.specs.declared.cell.Cell.{Cell}
+use Rattle.positions.specs.Kinds.{is-net}
 
 -- all start at 0
 abbrev pub no-cell : Cell
@@ -42,3 +45,27 @@ given c Sell q = with-sides c (c .longs) (c .shorts - q)
 abbrev pub received : Cell → Side → ℕ → Cell
 received c Buy q = with-sides c (c .longs + q) (c .shorts)
 received c Sell q = with-sides c (c .longs) (c .shorts + q)
+
+-- ── exercise ──
+
+-- so many contracts are not to be exercised without a request
+abbrev pub with-denied : Cell → ℕ → Cell
+with-denied c q = record { longs = c .longs; shorts = c .shorts; denied = q; due = c .due; exercised = c .exercised; assigned = c .assigned; covered = c .covered }
+
+-- in a net account longs and shorts both fall by the smaller of the two
+abbrev pub netted : AccountType → Cell → Cell
+netted t c = cond (is-net t) (with-sides c (c .longs - min (c .longs) (c .shorts)) (c .shorts - min (c .longs) (c .shorts))) c
+
+-- the longs that are exercised without a request, in a series that is: those not denied
+abbrev pub undenied : Cell → Bool → ℕ
+undenied c automatic = cond automatic (c .longs - c .denied) 0
+
+-- what is asked for and what is exercised without a request, as far as there are longs
+abbrev pub with-due : Cell → ℕ → Bool → Cell
+with-due c asked automatic = record { longs = c .longs; shorts = c .shorts; denied = c .denied; due = min (c .longs) (asked + undenied c automatic); exercised = c .exercised; assigned = c .assigned; covered = c .covered }
+
+-- ── the next day ──
+
+-- longs and shorts stay, the rest starts at 0
+abbrev pub carried : Cell → Cell
+carried c = with-sides no-cell (c .longs) (c .shorts)

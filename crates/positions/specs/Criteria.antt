@@ -1,7 +1,7 @@
 -- When an expiring series is exercised without a request.
 use Prim.Native.Nat.{ℕ, _-_, _*_}
 use mathlib.Core.Bool.{Bool, false, cond}
-use lib.Dec.{leb}
+use lib.Dec.{eqb, leb}
 use Rattle.std.specs.declared.option.Option.{Option}
 use Rattle.std.specs.declared.option.Option.the-variants.{Some, None}
 use Rattle.positions.specs.declared.kinds.Right.{Right}
@@ -26,3 +26,7 @@ reached c strike (Some d) = reaches c strike d
 
 abbrev pub meets : Criterion → Right → ℕ → ℕ → Bool
 meets c right strike price = reached c strike (difference right strike price)
+
+-- form 1 is hundredths of a percent, form 2 an amount
+abbrev pub criterion-of-form : ℕ → ℕ → Criterion
+criterion-of-form form value = cond (eqb form 1) (Percent value) (Amount value)

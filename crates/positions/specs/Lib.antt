@@ -3,3 +3,4 @@ pub mod Cells
 pub mod Legs
 pub mod Criteria
 pub mod Rows
+pub mod Places

@@ -1,6 +1,7 @@
 ghost use mathlib.Core.Path.{_≡_};
 ghost use Prim.Native.Nat.{_≤_};
-ghost use Rattle.positions.specs.Cells.{no-cell, with-sides, on-side, closing, booked, unbooked, given, received};
+ghost use Rattle.positions.specs.Cells.{no-cell, with-sides, on-side, closing, booked, unbooked, given, received, with-denied, netted, undenied, with-due, carried};
+use crate::kinds::AccountType;
 use crate::kinds::Effect;
 use crate::kinds::Side;
 
@@ -111,5 +112,66 @@ impl Cell {
             Side::Buy => self.with_sides(self.longs + quantity, self.shorts),
             Side::Sell => self.with_sides(self.longs, self.shorts + quantity),
         }
+    }
+
+    // The cell with another count of contracts that are not to be exercised without a request.
+    pub fn with_denied(&self, quantity: u32) -> Cell
+        ensures { λ r. ⌜ r ≡ with-denied (now (self .entry)) quantity ⌝ }
+    {
+        Cell {
+            longs: self.longs,
+            shorts: self.shorts,
+            denied: quantity,
+            due: self.due,
+            exercised: self.exercised,
+            assigned: self.assigned,
+            covered: self.covered,
+        }
+    }
+
+    // The cell at the cut: in a net account longs and shorts are set off against one another.
+    pub fn netted(&self, account_type: AccountType) -> Cell
+        ensures { λ r. ⌜ r ≡ netted «account_type» (now (self .entry)) ⌝ }
+    {
+        if account_type.is_net() {
+            let both = self.longs.min(self.shorts);
+            self.with_sides(self.longs - both, self.shorts - both)
+        } else {
+            *self
+        }
+    }
+
+    // The longs that are exercised without a request, where the series is.
+    fn undenied(&self, automatic: bool) -> u32
+        ensures { λ r. ⌜ r ≡ undenied (now (self .entry)) automatic ⌝ }
+    {
+        if automatic {
+            self.longs.saturating_sub(self.denied)
+        } else {
+            0
+        }
+    }
+
+    // The cell with the contracts that are due, no more than there are longs.
+    pub fn with_due(&self, asked: u32, automatic: bool) -> Cell
+        ensures { λ r. ⌜ r ≡ with-due (now (self .entry)) asked automatic ⌝ }
+    {
+        let wanted = u64::from(asked) + u64::from(self.undenied(automatic));
+        Cell {
+            longs: self.longs,
+            shorts: self.shorts,
+            denied: self.denied,
+            due: u64::from(self.longs).min(wanted) as u32,
+            exercised: self.exercised,
+            assigned: self.assigned,
+            covered: self.covered,
+        }
+    }
+
+    // The cell on the next day.
+    pub fn carried(&self) -> Cell
+        ensures { λ r. ⌜ r ≡ carried (now (self .entry)) ⌝ }
+    {
+        Cell::empty().with_sides(self.longs, self.shorts)
     }
 }

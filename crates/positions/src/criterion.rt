@@ -1,5 +1,5 @@
 ghost use mathlib.Core.Path.{_≡_};
-ghost use Rattle.positions.specs.Criteria.{meets};
+ghost use Rattle.positions.specs.Criteria.{meets, criterion-of-form};
 use crate::kinds::Right;
 
 // How far in the money a series must be to be exercised at its expiry without a request: by hundredths of a percent of
@@ -11,6 +11,17 @@ pub enum Criterion {
 }
 
 impl Criterion {
+    // The criterion of a form that is 1 or 2.
+    pub fn of_form(form: u32, value: u32) -> Criterion
+        ensures { λ r. ⌜ r ≡ criterion-of-form form value ⌝ }
+    {
+        if form == 1 {
+            Criterion::Percent(value)
+        } else {
+            Criterion::Amount(value)
+        }
+    }
+
     pub fn meets(self, right: Right, strike: u32, price: u32) -> bool
         ensures { λ r. ⌜ r ≡ meets self right strike price ⌝ }
     {

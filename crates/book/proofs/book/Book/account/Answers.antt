@@ -1,7 +1,7 @@
-use mathlib.Core.Path.{sym, _∙_}
+use mathlib.Core.Path.{sym}
 use Rattle.ledger.proofs.FactLaws.{facts}
 use Rattle.ledger.proofs.OpenLaws.{facts-account-added}
-use Rattle.book.proofs.PassLaws.{input-stage, sound-at}
+use Rattle.book.proofs.PassLaws.{sound-at}
 use Rattle.book.proofs.book.Book.account.Needs as need
 
 pub ghost-self : need.ghost-self

@@ -1,7 +1,7 @@
-use mathlib.Core.Path.{sym, _∙_}
+use mathlib.Core.Path.{sym}
 use Rattle.ledger.proofs.FactLaws.{facts}
 use Rattle.ledger.proofs.TransferLaws.{give-up-leg, facts-given-up}
-use Rattle.book.proofs.PassLaws.{input-stage, sound-at}
+use Rattle.book.proofs.PassLaws.{sound-at}
 use Rattle.book.proofs.book.Book.give_up.Needs as need
 
 pub refuse-give-up-requires : need.refuse-give-up-requires

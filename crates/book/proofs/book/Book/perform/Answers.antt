@@ -1,7 +1,9 @@
-use mathlib.Core.Path.{ap, _∙_}
+use mathlib.Core.Path.{refl, ap, _∙_}
+use lib.ListN.{length}
 use Rattle.ledger.specs.declared.state.State.{State}
 use Rattle.book.specs.Register.{After, answer, replied}
-use Rattle.book.proofs.RegisterLaws.{law, closing-example}
+use Rattle.book.proofs.RegisterLaws.{closing-example}
+use Rattle.book.proofs.WholeLaw.{law}
 use Rattle.book.proofs.book.Book.perform.Needs as need
 
 pub returns : need.returns
@@ -9,17 +11,22 @@ returns g c =
     let m = g .S·Draws .meaning (c .args .source .now) in
     let p = c .args .pass in
     let q = c .args .call .now in
+    let n = length (c .args .lines .now) in
     let e = c .dispatch .ensures .done in
     record {
       done = e;
+      lines = c .dispatch .ensures .lines;
       register = λ o r l. record {
         replies = (
-          ap (λ (a : After). replied (a .reply)) e ∙ ap (λ (s : State). replied (answer s m p q .reply)) (l .shows),
-          ap (λ (a : After). a .source) e ∙ ap (λ (s : State). answer s m p q .source) (l .shows),
-          g .S·Draws .below (c .args .source .now),
+          record {
+            reply = ap (λ (a : After). replied (a .reply)) e ∙ ap (λ (s : State). replied (answer s m n p q .reply)) (l .shows);
+            after = ap (λ (a : After). a .source) e ∙ ap (λ (s : State). answer s m n p q .source) (l .shows);
+            lines = ap (λ (s : State). answer s m n p q .lines) (l .shows);
+            below = g .S·Draws .below (c .args .source .now);
+          },
           l .replies,
         );
-        shows = ap (λ (a : After). a .state) e ∙ ap (λ (s : State). answer s m p q .state) (l .shows);
+        shows = ap (λ (a : After). a .state) e ∙ ap (λ (s : State). answer s m n p q .state) (l .shows);
       };
       law = law;
       closing = closing-example;

@@ -1,0 +1,4 @@
+pub mod Account
+pub mod Assignment
+pub mod Lines
+pub mod Laws
