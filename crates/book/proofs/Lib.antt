@@ -5,3 +5,4 @@ pub mod StageCounts
 pub mod RegisterLaws
 pub mod LineSums
 pub mod WholeLaw
+pub mod Worked

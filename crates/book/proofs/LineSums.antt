@@ -16,13 +16,13 @@ use Rattle.positions.specs.declared.cell.Cell.{Cell}
 use Rattle.positions.specs.Cells.{no-cell}
 use Rattle.settlement.specs.declared.line.Line.{Line}
 use Rattle.settlement.specs.declared.line.SeriesTerms.{SeriesTerms}
-use Rattle.settlement.specs.Lines.{exercised-line, covered-line, uncovered-line, if-any, cell-lines, lines-of-first, series-lines}
+use Rattle.settlement.specs.Lines.{exercised-line, covered-line, uncovered-line, if-any, cell-lines, series-lines}
 use Rattle.settlement.specs.Laws.{Even}
 use Rattle.settlement.proofs.EvenLaws.{lines-even}
 use Rattle.ledger.specs.declared.state.Series.{Series}
 use Rattle.ledger.specs.declared.state.State.{State}
 use Rattle.ledger.specs.Tables.{past-series, cells-of}
-use Rattle.ledger.specs.Statement.{terms-at, lines-at, first-lines, statement-lines}
+use Rattle.ledger.specs.Statement.{terms-at, lines-at, statement-lines}
 use Rattle.ledger.specs.Sound.{Facts}
 use Rattle.ledger.proofs.StatementLaws.{countable}
 use Rattle.book.specs.Law.{of-series, EvenLines}

@@ -3,9 +3,7 @@ use Prim.Native.Nat.{ℕ, _+_, _-_}
 use mathlib.Core.Path.{_≡_, refl, sym, ap, _∙_, subst}
 use mathlib.Core.List.{List, [], _∷_}
 use mathlib.Core.Bool.{Bool, true, false, cond}
-use native.Mathlib.Omega.{arith}
 use lib.Dec.{eqb}
-use Rattle.std.proofs.shelf.Signed.{ints}
 use Rattle.std.proofs.shelf.Tests.{cond-false}
 use Rattle.std.specs.declared.option.Option.{Option}
 use Rattle.std.specs.declared.option.Option.the-variants.{Some, None}
@@ -38,15 +36,11 @@ use Rattle.book.specs.declared.perform.Call.{Call}
 use Rattle.book.specs.declared.perform.ExerciseCall.{ExerciseCall}
 use Rattle.book.specs.declared.perform.ExerciseCall.the-variants.{RequestExercise, RejectRequest, SetCriterion, DenyExercise, FixPrice, LodgeShares, WithdrawShares, CloseTrading}
 use Rattle.book.specs.declared.perform.Call.the-variants.{Open, OfInput, OfExercise, CutOff, Assign, GiveStatement, BeginDay}
-use Rattle.book.specs.declared.pass.CutPass.{CutPass}
-use Rattle.book.specs.declared.pass.AssignedPass.{AssignedPass}
-use Rattle.book.specs.Stages.{fits-cut, fits-assigned, kept-or, replied-with, cut-refusal, assignment-refusal, statement-refusal, next-day-refusal}
-use Rattle.ledger.specs.declared.state.Stage.the-variants.{Cut}
-use Rattle.ledger.specs.Requests.{request-checks, request-added, rejection-checks, request-rejected, denial-checks, denial-noted}
-use Rattle.ledger.specs.Criteria.{criterion-checks, criterion-set, fixing-checks, price-fixed, trading-closed, lodge-checks, lodged, withdrawal-checks, collateral-withdrawn}
+use Rattle.book.specs.Stages.{fits-cut, fits-assigned, kept-or, replied-with, cut-refusal, assignment-refusal, next-day-refusal}
+use Rattle.ledger.specs.Requests.{request-checks, rejection-checks, denial-checks}
+use Rattle.ledger.specs.Criteria.{criterion-checks, fixing-checks, lodge-checks, withdrawal-checks}
 use Rattle.ledger.specs.Cutoff.{cut-checks, cut}
-use Rattle.ledger.specs.Assignment.{needed, assignment-checks, assigning, assigned-state}
-use Rattle.ledger.specs.Statement.{places-needed}
+use Rattle.ledger.specs.Assignment.{needed, assignment-checks, assigned-state}
 use Rattle.ledger.specs.NextDay.{next-day-checks, next-day}
 use Rattle.ledger.proofs.RequestLaws.{requestable, facts-requested, facts-request-rejected, deniable, facts-denied}
 use Rattle.ledger.proofs.CriteriaLaws.{facts-criterion, facts-fixed, facts-closed, lodgeable, facts-lodged, facts-withdrawn}
@@ -59,7 +53,6 @@ use Rattle.book.proofs.StageCounts.{tied-denied, tied-criterion, tied-cut, tie
 use Rattle.book.specs.Calls.{refused, outcome}
 use Rattle.book.specs.Register.{input-answer, exercise-answer, answer, Entry, replied, given, Truthful}
 use Rattle.book.specs.Balance.{Count, input-counted, counted, count, leg-counted, assignment-counted}
-use Rattle.book.specs.Law.{Law, Closing-example}
 use Rattle.book.proofs.PassLaws.{passed, cut-stage, enough-draws}
 use Rattle.book.proofs.BalanceLaws.{Tied}
 use Rattle.book.proofs.CountLaws.{tied-opening, tied-account, tied-series, tied-traded, tied-transferred, tied-stepped, tied-moved}
@@ -229,6 +222,3 @@ step s y m room (ForAssigned p) (BeginDay day) reply b k e =
 pub always : (o : Opening) (r : List Entry) → Truthful o r → Kept (count o r) (given o r)
 always o [] h = record { tied = tied-opening (o .number) (o .day) (o .size) (o .block); sound = facts-opened (o .number) (o .day) (o .size) (o .block) h }
 always o (e ∷ r) h = step (given o r) (count o r) (e .before) (e .room) (e .pass) (e .call) (e .reply) (h .0 .below) (always o r (h .1)) (h .0 .reply)
-
-pub closing-example : Closing-example
-closing-example c none four = (omega (arith, none, four), omega (arith, none, four))

@@ -1,12 +1,12 @@
 -- The cut, the assignment, the next day and the calls on exercise keep the count of the register and the book together.
-use Prim.Native.Nat.{ℕ, _+_, _-_, _≤_, _<_}
-use mathlib.Core.Path.{_≡_, refl, sym, ap, _∙_, subst}
-use mathlib.Core.Bool.{Bool, true, false, cond, _&&_}
-use mathlib.Core.List.{List, []}
+use Prim.Native.Nat.{ℕ, _+_, _-_, _≤_}
+use mathlib.Core.Path.{_≡_, refl, sym, _∙_, subst}
+use mathlib.Core.Bool.{Bool, true, false, cond}
+use mathlib.Core.List.{[]}
 use native.Mathlib.Omega.{arith}
 use lib.Dec.{eqb}
 use lib.IntN.{ℤ, pos, _+ℤ_, negℤ}
-use lib.ListN.{getD, set, length}
+use lib.ListN.{getD, set}
 use Rattle.std.proofs.shelf.Signed.{ints}
 use Rattle.std.proofs.shelf.Tests.{cond-both}
 use Rattle.draws.specs.Meaning.{Meaning, Below}
@@ -16,22 +16,22 @@ use Rattle.positions.specs.Cells.{no-cell, with-denied}
 use Rattle.positions.specs.Legs.{no-leg}
 use Rattle.settlement.specs.Laws.{CellSettled}
 use Rattle.ledger.specs.declared.state.Series.{Series}
-use Rattle.ledger.specs.declared.state.Stage.the-variants.{Input, Cut}
+use Rattle.ledger.specs.declared.state.Stage.the-variants.{Cut}
 use Rattle.ledger.specs.declared.state.State.{State}
-use Rattle.ledger.specs.Tables.{row, cells-of, cell-at}
+use Rattle.ledger.specs.Tables.{row, cells-of}
 use Rattle.ledger.specs.Requests.{expiring, denial-noted}
 use Rattle.ledger.specs.Criteria.{criterion-set}
 use Rattle.ledger.specs.Cutoff.{cut}
-use Rattle.ledger.specs.Assignment.{needed, expires, assigned-state}
+use Rattle.ledger.specs.Assignment.{needed, assigned-state}
 use Rattle.ledger.specs.NextDay.{next-day}
 use Rattle.ledger.specs.Sound.{Facts}
-use Rattle.ledger.proofs.FactLaws.{account-placed, series-placed}
+use Rattle.ledger.proofs.FactLaws.{series-placed}
 use Rattle.ledger.proofs.RequestLaws.{Deniable, denied-sides}
 use Rattle.ledger.proofs.CutLaws.{SameLeg, cut-even, cut-leg}
-use Rattle.ledger.proofs.AssignedLaws.{RowSettled, at-place}
+use Rattle.ledger.proofs.AssignedLaws.{at-place}
 use Rattle.ledger.proofs.NextDayLaws.{carried-at}
 use Rattle.book.specs.Balance.{Count, assignment-counted}
-use Rattle.book.proofs.BalanceLaws.{Differs, RowAgrees, Agrees, as-listed, Lists, Tied}
+use Rattle.book.proofs.BalanceLaws.{Differs, as-listed, Tied}
 use Rattle.book.proofs.CountLaws.{agrees-cells}
 
 -- ── longs less shorts stay ──

@@ -6,7 +6,6 @@ use mathlib.Core.Bool.{Bool, true, false, cond}
 use native.Mathlib.Omega.{arith}
 use lib.Dec.{eqb, leb}
 use lib.ListN.{getD}
-use Rattle.std.specs.shelf.Lists.{sumBy}
 use Rattle.std.proofs.shelf.Signed.{ints}
 use Rattle.std.proofs.shelf.Tests.{true≢false, le-leb, lt-leb, cases-lt}
 use mathlib.Core.Logic.{⊎-elim}
@@ -17,13 +16,12 @@ use Rattle.draws.specs.Checks.{first-refusal}
 use Rattle.draws.specs.Meaning.{Meaning, Below}
 use Rattle.positions.specs.declared.cell.Cell.{Cell}
 use Rattle.positions.specs.Cells.{no-cell}
-use Rattle.settlement.specs.declared.line.Line.{Line}
 use Rattle.ledger.specs.declared.refusal.Refusal.{Refusal}
 use Rattle.ledger.specs.declared.refusal.Refusal.the-variants.{PassMisfit, DrawsShort}
 use Rattle.ledger.specs.declared.state.Series.{Series as Listed}
 use Rattle.ledger.specs.declared.state.State.{State}
-use Rattle.ledger.specs.Tables.{cells-of, cell-at}
-use Rattle.ledger.specs.Assignment.{needed, assignment-checks, assigning, assigned-state}
+use Rattle.ledger.specs.Tables.{cell-at}
+use Rattle.ledger.specs.Assignment.{needed, assigning, assigned-state}
 use Rattle.ledger.specs.Statement.{statement-lines}
 use Rattle.ledger.specs.Sound.{Facts}
 use Rattle.ledger.proofs.AssignedLaws.{at-place, supply-spent}
@@ -33,10 +31,10 @@ use Rattle.book.specs.declared.pass.Pass.the-variants.{ForInput, ForCut, ForAs
 use Rattle.book.specs.declared.perform.Opening.{Opening}
 use Rattle.book.specs.declared.perform.Call.{Call}
 use Rattle.book.specs.declared.perform.Call.the-variants.{Open, OfInput, OfExercise, CutOff, Assign, GiveStatement, BeginDay}
-use Rattle.book.specs.Stages.{fits-cut, kept-or, replied-with, assignment-refusal, statement-refusal, lines-written}
-use Rattle.book.specs.Register.{After, Entry, replied, answer, answer-to, given, True, Truthful, Leads}
+use Rattle.book.specs.Stages.{fits-cut, kept-or, replied-with, assignment-refusal, statement-refusal}
+use Rattle.book.specs.Register.{Entry, replied, answer, given, Truthful}
 use Rattle.book.specs.Balance.{count}
-use Rattle.book.specs.Law.{of-assignment, in-assignments, Holds, Drawn, EvenLines, Law}
+use Rattle.book.specs.Law.{of-assignment, in-assignments, Drawn, EvenLines, Law}
 use Rattle.book.proofs.PassLaws.{cut-stage}
 use Rattle.book.proofs.RegisterLaws.{Kept, always}
 use Rattle.book.proofs.LineSums.{statement-even, none-even}

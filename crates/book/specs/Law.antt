@@ -7,9 +7,6 @@ use lib.Dec.{eqb}
 use lib.IntN.{pos, _+ℤ_, negℤ}
 use Rattle.std.specs.shelf.Lists.{sumBy}
 use Rattle.positions.specs.declared.cell.Cell.{Cell}
-use Rattle.positions.specs.declared.kinds.Side.the-variants.{Buy}
-use Rattle.positions.specs.declared.kinds.Effect.the-variants.{Closing}
-use Rattle.positions.specs.Cells.{booked}
 use Rattle.positions.specs.Rows.{total-longs, total-shorts}
 use Rattle.ledger.specs.declared.state.State.{State}
 use Rattle.ledger.specs.Tables.{cells-of, cell-at}
@@ -90,7 +87,3 @@ Law = (o : Opening) (r : List Entry) (s : State) → Leads o r s
     → Holds o r s
     × ((e : Entry) (p : CutPass) (t : State) → Leads o (e ∷ r) t → e .pass ≡ ForCut p → e .call ≡ Assign → fits-cut s p ≡ true → Drawn s t e)
     × ((e : Entry) (t : State) → Leads o (e ∷ r) t → EvenLines (e .lines))
-
--- shorts 4, closing buy of 10: shorts 0, longs 6
-abbrev pub Closing-example : Type 0
-Closing-example = (c : Cell) → c .longs ≡ 0 → c .shorts ≡ 4 → (booked c Buy Closing 10 .shorts ≡ 0) × (booked c Buy Closing 10 .longs ≡ 6)

@@ -5,3 +5,4 @@ pub mod Register
 pub mod Performed
 pub mod Balance
 pub mod Law
+pub mod Examples

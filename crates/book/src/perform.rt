@@ -10,7 +10,8 @@ ghost use Rattle.ledger.specs.NextDay.{next-day};
 ghost use Rattle.book.specs.Stages.{kept-or, replied-with, cut-refusal, cut-pass, next-day-refusal, next-pass};
 ghost use Rattle.book.specs.Register.{input-answer, exercise-answer, answer, Entry, entry, Leads};
 ghost use Rattle.book.specs.Performed.{after-of};
-ghost use Rattle.book.specs.Law.{Law, Closing-example};
+ghost use Rattle.book.specs.Examples.{Examples};
+ghost use Rattle.book.specs.Law.{Law};
 use crate::book::Book;
 use crate::pass::AssignedPass;
 use crate::pass::CutPass;
@@ -340,7 +341,7 @@ impl Book {
         ensures lines { λ _. ⌜ now (lines .exit) ≡ written (now (lines .entry)) 0 (answer (now (self .entry) .state) (meaning (now (source .entry))) (length (now (lines .entry))) pass (now (call .entry)) .lines) ⌝ }
         ensures register { λ r. ⌜ ((o : Opening) (g : List Entry) → Leads o g (now (self .entry) .state) → Leads o (entry pass (now (call .entry)) (meaning (now (source .entry))) (meaning (now (source .exit))) (length (now (lines .entry))) (answer (now (self .entry) .state) (meaning (now (source .entry))) (length (now (lines .entry))) pass (now (call .entry)) .lines) (r .reply) ∷ g) (now (self .exit) .state)) ⌝ }
         ensures law { λ _. ⌜ Law ⌝ }
-        ensures closing { λ _. ⌜ Closing-example ⌝ }
+        ensures examples { λ _. ⌜ Examples ⌝ }
     {
         self.dispatch(source, lines, pass, call)
     }

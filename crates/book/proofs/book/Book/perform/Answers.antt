@@ -2,7 +2,7 @@ use mathlib.Core.Path.{refl, ap, _∙_}
 use lib.ListN.{length}
 use Rattle.ledger.specs.declared.state.State.{State}
 use Rattle.book.specs.Register.{After, answer, replied}
-use Rattle.book.proofs.RegisterLaws.{closing-example}
+use Rattle.book.proofs.Worked.{examples}
 use Rattle.book.proofs.WholeLaw.{law}
 use Rattle.book.proofs.book.Book.perform.Needs as need
 
@@ -29,5 +29,5 @@ returns g c =
         shows = ap (λ (a : After). a .state) e ∙ ap (λ (s : State). answer s m n p q .state) (l .shows);
       };
       law = law;
-      closing = closing-example;
+      examples = examples;
     }
