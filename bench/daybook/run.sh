@@ -22,11 +22,11 @@ compare() {
 
 for seed in $(seq 1 100); do
     ./generate "$seed" 4000 >lines
-    compare "generate $seed 4000"
+    compare "the short book of seed $seed"
 done
 echo "same: 100 books of 4,000 lines"
 ./generate 7 1000000 >lines
-compare "generate 7 1000000"
+compare "the long book of seed 7"
 echo "same: one book of 1,000,000 lines"
 
 # Each pair of kind and reply that the checks of the calls can give, and how often it was met.
