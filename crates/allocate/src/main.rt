@@ -1,4 +1,6 @@
 // Reads one allocation from standard input, makes it, and prints it draw by draw.
+#![tactic(auto)]
+
 use allocation_text::Order;
 use anyhow::anyhow;
 use std::io;

@@ -1,4 +1,6 @@
 // Assignment of exercised contracts to the accounts that are short, by draw.
+#![tactic(auto)]
+
 ghost use Rattle.std.specs.Prelude.{◌≡◌, ℕ, ◌+◌, ◌-◌, ◌<◌, ◌≤◌, min, [], length, if◌then◌else◌, sum, nat_lt, slice_index};
 ghost use Rattle.draws.specs.Meaning.{behind, behind_all};
 ghost use Rattle.allocation.specs.Assigned.{draws_needed, bounds, assigned_by};

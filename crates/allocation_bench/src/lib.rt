@@ -1,4 +1,6 @@
 // What the benchmark of the allocation calls from outside.
+#![tactic(auto)]
+
 ghost use Rattle.std.specs.Prelude.{◌≡◌, replicate, slice_set};
 ghost use Rattle.draws.specs.Sources.{generator};
 ghost use Rattle.allocation.specs.Allocation.{allocation};

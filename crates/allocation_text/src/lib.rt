@@ -1,4 +1,6 @@
 // One allocation as text: what a person writes, and what a person reads.
+#![tactic(auto)]
+
 mod input;
 mod report;
 

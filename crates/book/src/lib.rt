@@ -1,4 +1,6 @@
 // The day book of one underlying stock: who may call what when, and every call with its whole outcome.
+#![tactic(auto)]
+
 mod book;
 mod calls;
 mod exercise;

@@ -1,4 +1,6 @@
 // The day book as a filter: input lines on standard input, filled lines and statement lines on standard output.
+#![tactic(auto)]
+
 mod desk;
 
 use desk::Desk;

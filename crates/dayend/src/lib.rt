@@ -1,4 +1,6 @@
 // The day's end: the cut, the assignment, the statement and the next day.
+#![tactic(auto)]
+
 mod assignment;
 mod cutoff;
 mod new_day;

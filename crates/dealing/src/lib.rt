@@ -1,4 +1,6 @@
 // Openings, accounts, series and trades: the checks of each call and what it does.
+#![tactic(auto)]
+
 mod listings;
 mod trades;
 

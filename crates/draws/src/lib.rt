@@ -1,4 +1,6 @@
 // Sources of draws, and what they mean.
+#![tactic(auto)]
+
 ghost use Rattle.std.specs.Prelude.{◌≡◌};
 ghost use Rattle.draws.specs.Meaning.{Meaning, Below};
 ghost use Rattle.draws.specs.Draw.{drawn, after, reply_of, replied, draw_reply};

@@ -1,4 +1,6 @@
 // What leads to exercise: requests, denials, criteria, the fixing price, collateral and the close of trading.
+#![tactic(auto)]
+
 mod criteria;
 mod requests;
 

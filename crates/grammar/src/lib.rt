@@ -1,4 +1,6 @@
 // The kinds of lines and their numbers, and a scan of a line from left to right.
+#![tactic(auto)]
+
 mod kinds;
 mod scan;
 mod ten;

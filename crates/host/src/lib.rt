@@ -1,4 +1,6 @@
 // The host of a day book: one input line in, its filled line and its statement lines out.
+#![tactic(auto)]
+
 mod calls;
 mod desk;
 mod host;

@@ -1,4 +1,6 @@
 // The state of a day book, its tables, and what a call looks up in them.
+#![tactic(auto)]
+
 mod lookups;
 mod refusal;
 mod state;

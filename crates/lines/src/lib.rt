@@ -1,4 +1,6 @@
 // Input lines and filled lines, read and written.
+#![tactic(auto)]
+
 mod read;
 mod text;
 mod write;

@@ -1,4 +1,6 @@
 // What the benchmark of `lines` calls from outside.
+#![tactic(auto)]
+
 use lines::{Text, fill, fill_faulty, read_input};
 
 // A sum over the bytes that depends on their places.

@@ -1,4 +1,6 @@
 // A read line with its fields as parts of it, and their numbers.
+#![tactic(auto)]
+
 mod line;
 mod numbers;
 

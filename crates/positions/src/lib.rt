@@ -1,4 +1,6 @@
 // One account's position in one series, and the legs that move it.
+#![tactic(auto)]
+
 mod cell;
 mod criterion;
 mod kinds;

@@ -1,5 +1,7 @@
 // Any call of a day book under any pass, the register of such calls, the balance counted from it, and the law that
 // holders and writers stay equal whatever is called.
+#![tactic(auto)]
+
 mod calls;
 mod performing;
 

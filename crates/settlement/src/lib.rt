@@ -1,4 +1,6 @@
 // One series at the day's end: the assignment of what is exercised, and the lines of the statement.
+#![tactic(auto)]
+
 mod account;
 mod assignment;
 mod line;

@@ -1,4 +1,6 @@
 // Statement lines, read and written; and an archive line read and written again.
+#![tactic(auto)]
+
 mod again;
 mod statement;
 

@@ -1,4 +1,6 @@
 // What moves legs and positions between accounts: the checks of each call and what it does.
+#![tactic(auto)]
+
 mod moves;
 
 pub use moves::{
