@@ -34,7 +34,7 @@ fn answer(
     filled: &mut Text,
     line: &[u8],
 ) -> io::Result<()> {
-    let statements = host.answer(line, filled);
+    let statements = host.answer_into(line, filled);
     out.write_all(filled.as_bytes())?;
     for i in 0..statements {
         let Some(statement) = host.statement(i) else {
@@ -46,13 +46,13 @@ fn answer(
 }
 
 impl Desk {
-    pub fn new(out: Stdout) -> Desk {
-        Desk {
+    pub fn new(alloc: Global, out: Stdout) -> io::Result<Desk> {
+        Ok(Desk {
             host: Host::new(),
             begun: Text::new(),
             filled: Text::new(),
-            out: BufWriter::new(out),
-        }
+            out: BufWriter::new(alloc, out)?,
+        })
     }
 
     // Answers the line that was begun.

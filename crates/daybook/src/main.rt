@@ -8,7 +8,7 @@ use std::io;
 use std::io::Read;
 
 fn run(rt: &HostRuntime) -> io::Result<()> {
-    let mut desk = Desk::new(rt.stdout());
+    let mut desk = Desk::new(rt.alloc(), rt.stdout())?;
     let mut buf = [0u8; 65_536];
     for _ in 0..u64::MAX {
         let n = rt.stdin().read(&mut buf)?;

@@ -1,6 +1,5 @@
 // Days of one book, line by line.
 use host::Host;
-use lines::Text;
 use std::process::Abort;
 use std::test::Fail;
 
@@ -284,76 +283,76 @@ const LAST_DAYS: [Row; 31] = [
     (b"32 99999\n", b"32 99999 : 15 0\n"),
 ];
 
-// The line is answered with just that text.
-fn answers(rt: &impl Abort, host: &mut Host, line: &[u8], expected: &[u8]) -> Result<(), Fail> {
-    let mut filled = Text::new();
-    let statements = host.answer(line, &mut filled);
+// The line is answered with just that text; `rows` and `i` say in which table it stands, and where.
+fn answers(rt: &impl Abort, host: &mut Host, rows: &str, i: usize, line: &[u8], expected: &[u8]) -> Result<(), Fail> {
+    let answered = host.answer(line);
+    let filled = answered.text.ok_or("no filled line")?;
     let mut rest = expected
         .strip_prefix(filled.as_bytes())
         .ok_or("another filled line")?;
-    for i in 0..statements {
-        let statement = host.statement(i).ok_or("no statement line")?;
+    for place in 0..answered.statements {
+        let statement = host.statement(place).ok_or("no statement line")?;
         rest = rest
             .strip_prefix(statement.as_bytes())
             .ok_or("another statement line")?;
     }
-    assert!(rt; rest.is_empty());
+    assert!(rt; rest.is_empty(), "{rows}, row {i}");
     Ok(())
 }
 
-fn all_answered(rt: &impl Abort, host: &mut Host, rows: &[Row]) -> Result<(), Fail> {
+fn all_answered(rt: &impl Abort, host: &mut Host, name: &str, rows: &[Row]) -> Result<(), Fail> {
     for (i, (line, expected)) in rows.iter().enumerate() {
-        answers(rt, host, *line, *expected).note(i)?;
+        answers(rt, host, name, i, *line, *expected)?;
     }
     Ok(())
 }
 
 fn opening(rt: &impl Abort, host: &mut Host) -> Result<(), Fail> {
-    all_answered(rt, host, &OPENING)
+    all_answered(rt, host, "opening", &OPENING)
 }
 
 fn trades(rt: &impl Abort, host: &mut Host) -> Result<(), Fail> {
-    all_answered(rt, host, &TRADES)
+    all_answered(rt, host, "trades", &TRADES)
 }
 
 fn more_trades(rt: &impl Abort, host: &mut Host) -> Result<(), Fail> {
-    all_answered(rt, host, &MORE_TRADES)
+    all_answered(rt, host, "more_trades", &MORE_TRADES)
 }
 
 fn exercise(rt: &impl Abort, host: &mut Host) -> Result<(), Fail> {
-    all_answered(rt, host, &EXERCISE)
+    all_answered(rt, host, "exercise", &EXERCISE)
 }
 
 fn first_end(rt: &impl Abort, host: &mut Host) -> Result<(), Fail> {
-    all_answered(rt, host, &FIRST_END)
+    all_answered(rt, host, "first_end", &FIRST_END)
 }
 
 fn second_day(rt: &impl Abort, host: &mut Host) -> Result<(), Fail> {
-    all_answered(rt, host, &SECOND_DAY)
+    all_answered(rt, host, "second_day", &SECOND_DAY)
 }
 
 fn last_days(rt: &impl Abort, host: &mut Host) -> Result<(), Fail> {
-    all_answered(rt, host, &LAST_DAYS)
+    all_answered(rt, host, "last_days", &LAST_DAYS)
 }
 
 #[test]
 fn days(rt: HostRuntime) -> Result<(), Fail> {
     let mut host = Host::new();
-    opening(&rt, &mut host).note("opening")?;
-    trades(&rt, &mut host).note("trades")?;
-    more_trades(&rt, &mut host).note("more_trades")?;
-    exercise(&rt, &mut host).note("exercise")?;
-    first_end(&rt, &mut host).note("first_end")?;
-    second_day(&rt, &mut host).note("second_day")?;
-    last_days(&rt, &mut host).note("last_days")?;
+    opening(&rt, &mut host)?;
+    trades(&rt, &mut host)?;
+    more_trades(&rt, &mut host)?;
+    exercise(&rt, &mut host)?;
+    first_end(&rt, &mut host)?;
+    second_day(&rt, &mut host)?;
+    last_days(&rt, &mut host)?;
     Ok(())
 }
 
 #[test]
 fn tape_is_full(rt: HostRuntime) -> Result<(), Fail> {
     let mut host = Host::new();
-    for _ in 0..1_024 {
-        answers(&rt, &mut host, b"29 5\n", b"29 5 : 0 0\n")?;
+    for i in 0..1_024 {
+        answers(&rt, &mut host, "tape", i, b"29 5\n", b"29 5 : 0 0\n")?;
     }
-    answers(&rt, &mut host, b"29 5\n", b"29 5 : 18 0\n")
+    answers(&rt, &mut host, "tape", 1_024, b"29 5\n", b"29 5 : 18 0\n")
 }

@@ -2,7 +2,7 @@
 use Rattle.std.specs.Prelude.{◌≡◌, ℕ, zero, suc, ◌+◌, ◌*◌, ◌/◌, ◌%◌, ◌<◌, ◌≤◌, Bool, true, false, cond, ◌⊎◌, List, [], ◌∷◌, ◌++◌, map, length, Some, None, decimal, Option, ◌==◌, ◌≢◌}
 use Rattle.std.specs.Int.{IsInRange}
 use Rattle.std.specs.Str.Parse.{digits_value}
-use Rattle.std.specs.List.{flat_map, AllByRecursion as All}
+use Rattle.std.specs.List.{flat_map, AllByRecursion}
 use Rattle.grammar.specs.declared.kinds.Row.{Row}
 use Rattle.grammar.specs.Kinds.{arity, Short, IsNumber}
 
@@ -96,7 +96,7 @@ blanked ds = 32 ∷ ds
 -- of n fields all but the last m are read from xs, by their digits, and rest follows them
 pub record FieldsRead (d n m : ℕ) (xs : List ℕ) (texts : List (List ℕ)) (rest : List ℕ) : Type 0 where
   pub split : xs ≡ flat_map blanked texts ++ rest
-  pub numbers : All (IsNumber d) texts
+  pub numbers : AllByRecursion (IsNumber d) texts
   pub reached : (t : List Piece) → Delim t → Reached (Writes (shape d n t)) (Writes (shape d m t)) (flat_map blanked texts) (map (digits_value 10) texts) rest
 
 -- a table of two-digit kinds with at most 7 fields
@@ -131,7 +131,7 @@ NoSecond rows t xs = (k n : ℕ) → arity rows k ≡ Some n → k / 10 ≡ t �
 -- a kind of the table and the digits of its fields are read from xs
 pub record StartRead (rows : List Row) (xs : List ℕ) (k : ℕ) (texts : List (List ℕ)) (rest : List ℕ) : Type 0 where
   pub known : arity rows k ≡ Some (length texts)
-  pub numbers : All (IsNumber 8) texts
+  pub numbers : AllByRecursion (IsNumber 8) texts
   pub split : xs ≡ (decimal k ++ flat_map blanked texts) ++ rest
   pub reached : (t : List Piece) → Delim t → Reached (Lines rows t) (Writes t) (decimal k ++ flat_map blanked texts) (k ∷ map (digits_value 10) texts) rest
 
@@ -148,5 +148,5 @@ pub record AnswerRead (xs reply result : List ℕ) : Type 0 where
 -- the digits of ten numbers are read from xs, to its end
 pub record TenRead (xs d : List ℕ) (texts : List (List ℕ)) : Type 0 where
   pub number : IsNumber 16 d
-  pub numbers : All (IsNumber 16) texts
+  pub numbers : AllByRecursion (IsNumber 16) texts
   pub done : Done (Writes ten_numbers) xs (digits_value 10 d ∷ map (digits_value 10) texts)

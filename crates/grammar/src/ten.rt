@@ -1,7 +1,7 @@
 // The ten numbers of a statement line.
 ghost use Rattle.std.specs.Prelude.{◌≡◌, ◌∷◌, map, MatchResult};
 ghost use Rattle.std.specs.Str.Parse.{digits_value};
-ghost use Rattle.std.specs.List.{AllByRecursion as All};
+ghost use Rattle.std.specs.List.{AllByRecursion};
 ghost use Rattle.grammar.specs.Kinds.{IsNumber};
 ghost use Rattle.grammar.specs.Grammar.{Writes, Stuck, Done, ten_numbers, TenRead};
 
@@ -22,7 +22,7 @@ fn scan_ten<'a>(line: &'a [u8], rest: &mut [&'a [u8]; 9]) -> Result<&'a [u8], us
 
 // The values of the digits of nine numbers.
 fn nine_values(digits: &[&[u8]; 9]) -> [u64; 9]
-    requires { All (IsNumber 16) (map (λ d. d.now) digits.now) }
+    requires { AllByRecursion (IsNumber 16) (map (λ d. d.now) digits.now) }
     ensures { result ≡ map (digits_value 10) (map (λ d. d.now) digits.now) }
 {
     let mut values = [0u64; 9];

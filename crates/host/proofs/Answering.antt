@@ -1,5 +1,5 @@
 -- A read line and a faulty one, as the host answers them.
-use Rattle.std.proofs.Common.{◌≡◌, ℕ, ◌<◌, ◌≤◌, List, [], ◌++◌, length, sym, refl, ap, ◌∙◌, subst, ⊎_elim, arith}
+use Rattle.std.proofs.Common.{◌≡◌, Some, ℕ, ◌<◌, ◌≤◌, List, [], ◌++◌, length, sym, refl, ap, ◌∙◌, subst, ⊎_elim, arith}
 use Rattle.std.proofs.lemmas.List.{take_all, take-take, length-take-le}
 use Rattle.std.proofs.lemmas.Bool.{cases_lt}
 use Rattle.draws.specs.declared.Reply.{Reply}
@@ -7,18 +7,19 @@ use Rattle.parts.specs.declared.line.Line.{Line}
 use Rattle.lines.specs.Lines.{InputLine, FilledLine, IsInput, Begins, LongestStart, answer_text, before_feed, filled_line}
 use Rattle.parts.specs.Parts.{kind_of, numbers_of}
 use Rattle.lines.specs.Reads.{ReadsInput}
-use Rattle.lines.specs.Texts.{cut}
 use Rattle.lines.proofs.Filling.{fills, fills_faulty}
 use Rattle.lines.proofs.Lengths.{input_length, input_start}
 use Rattle.register.specs.Register.{Brief}
 use Rattle.host.specs.Steps.{Shown, host_step}
-use Rattle.host.specs.Hosts.{statements_after, Fills, Faults, Answers}
+use Rattle.lines.specs.declared.text.Text.{Text}
+use Rattle.lines.specs.Texts.{cut, text_of}
+use Rattle.host.specs.Hosts.{statements_after, Fills, Faults, Answers, FillsText, FaultsText, AnswersText}
 
 pub fills_of : (h : Shown) (l : Line) (w : List ℕ) (k : ℕ) (ns : List ℕ) (r : Reply) (text : List ℕ) (statements : ℕ) (after : Shown)
     → ReadsInput w l → k ≡ kind_of l → ns ≡ numbers_of l
     → r ≡ (host_step h k ns).reply → Brief r → after ≡ (host_step h k ns).after
     → text ≡ cut (before_feed w ++ answer_text r.number r.result) → statements ≡ statements_after k r
-    → Fills h (kind_of l) (numbers_of l) text statements after
+    → FillsText h (kind_of l) (numbers_of l) text statements after
 fills_of h l w k ns r text statements after reads ek en er b ea t f =
     let rs : r ≡ (host_step h (kind_of l) (numbers_of l)).reply = er ∙ ap (λ x. (host_step h x ns).reply) ek ∙ ap (λ x. (host_step h (kind_of l) x).reply) en in
     let P : List ℕ → Type 0 = λ x. FilledLine (kind_of l) (numbers_of l) r.number r.result x in
@@ -30,13 +31,13 @@ fills_of h l w k ns r text statements after reads ek en er b ea t f =
     }
 
 -- a line that is read is no faulty one, and has no other numbers
-pub read_answers : (h : Shown) (w : List ℕ) (l : Line) (text : List ℕ) (n : ℕ) (after : Shown) → ReadsInput w l → Fills h (kind_of l) (numbers_of l) text n after → Answers h w text n after
+pub read_answers : (h : Shown) (w : List ℕ) (l : Line) (text : List ℕ) (n : ℕ) (after : Shown) → ReadsInput w l → FillsText h (kind_of l) (numbers_of l) text n after → AnswersText h w text n after
 read_answers h w l text n after reads f =
     record {
       fills = λ k ns i.
           let o = reads.only k ns i in
-          let P : ℕ → Type 0 = λ x. Fills h x (numbers_of l) text n after in
-          let Q : List ℕ → Type 0 = λ x. Fills h k x text n after in
+          let P : ℕ → Type 0 = λ x. FillsText h x (numbers_of l) text n after in
+          let Q : List ℕ → Type 0 = λ x. FillsText h k x text n after in
           subst Q (sym o.1) (subst P (sym o.0) f);
       faults = λ m s. absurd (s.no_line (kind_of l, numbers_of l, reads.is));
     }
@@ -51,7 +52,7 @@ same_start w m n s t =
     (λ l. ⊎_elim (λ g. absurd (one_start w n m t s g)) (λ g. omega arith) (cases_lt n m))
     (cases_lt m n)
 
-pub faulty_answers : (h : Shown) (w : List ℕ) (m : ℕ) (text : List ℕ) → LongestStart IsInput w m → m ≤ 66 → text ≡ cut (filled_line 99 [] 2 m) → Answers h w text 0 h
+pub faulty_answers : (h : Shown) (w : List ℕ) (m : ℕ) (text : List ℕ) → LongestStart IsInput w m → m ≤ 66 → text ≡ cut (filled_line 99 [] 2 m) → AnswersText h w text 0 h
 faulty_answers h w m text s few t =
     let F : List ℕ → Type 0 = λ x. FilledLine 99 [] 2 m x in
     let line = subst F (sym t) (fills_faulty m few) in
@@ -76,9 +77,9 @@ cut_start w n long s =
     }
 
 -- a line that is cut to 170 bytes is answered as the whole line
-pub begun_answers : (h : Shown) (w line text : List ℕ) (n : ℕ) (after : Shown) → cut w ≡ line → Answers h line text n after → Answers h w text n after
+pub begun_answers : (h : Shown) (w line text : List ℕ) (n : ℕ) (after : Shown) → cut w ≡ line → AnswersText h line text n after → AnswersText h w text n after
 begun_answers h w line text n after e a =
-    let A : List ℕ → Type 0 = λ x. Answers h x text n after in
+    let A : List ℕ → Type 0 = λ x. AnswersText h x text n after in
     ⊎_elim
     (λ long. record {
       fills = λ k ns i. let m = input_length k ns w i in absurd (omega arith);
@@ -86,3 +87,11 @@ begun_answers h w line text n after e a =
     })
     (λ short. subst A (sym e ∙ take_all 170 w (omega arith)) a)
     (cases_lt 170 (length w))
+
+-- a text that is lent and one that is given back are answered alike
+pub given_back : (h : Shown) (line : List ℕ) (text : Text) (n : ℕ) (after : Shown) → AnswersText h line (text_of text) n after → Answers h line (record { text = Some text; statements = n }) after
+given_back h line text n after a =
+    record {
+      fills = λ k ns i. let f = a.fills k ns i in record { text = f.text_is; follow = f.follow; held = f.held };
+      faults = λ m s. let f = a.faults m s in record { text = f.text_is; follow = f.follow; held = f.held };
+    }

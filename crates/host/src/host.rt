@@ -9,7 +9,7 @@ ghost use Rattle.lines.specs.Reads.{ReadsInput};
 ghost use Rattle.host.specs.Numbers.{unread_of};
 ghost use Rattle.host.specs.Places.{empty_line, numbers_at};
 ghost use Rattle.host.specs.Steps.{start_step, make_step, host_step};
-ghost use Rattle.host.specs.Hosts.{shown, statements_after, Fills, Answers};
+ghost use Rattle.host.specs.Hosts.{shown, statements_after, FillsText, Answers, AnswersText};
 
 use crate::calls::{at, call_of};
 use crate::desk::{idle, make, reply_of};
@@ -32,6 +32,13 @@ pub struct Host {
     places: [Line; 256],
 }
 
+// The filled line, and how many statement lines follow it.
+#[derive(Clone, Copy)]
+pub struct Answered {
+    pub text: Option<Text>,
+    pub statements: usize,
+}
+
 // How many statement lines follow a line of that kind with that reply.
 fn statements_after(kind: u8, reply: Reply) -> usize
     ensures { result ≡ statements_after kind reply }
@@ -45,7 +52,7 @@ fn statements_after(kind: u8, reply: Reply) -> usize
 
 // The reply to a call that needs a book, where none is open.
 fn no_book() -> Reply
-    ensures* { λ r. ⌜ r ≡ record { number = 1; result = 0 } ⌝ }
+    ensures { result ≡ record { number = 1; result = 0 } }
 {
     Reply {
         number: 1,
@@ -148,7 +155,7 @@ impl Host {
     // Answers a line that was read.
     fn answer_read(&mut self, read: &ReadLine<'_>, line: &[u8], text: &mut Text) -> usize
         requires { ReadsInput line.now read.now }
-        ensures { Fills (shown self.old) (kind_of read.now) (numbers_of read.now) (text_of text.new) result (shown self.new) }
+        ensures { FillsText (shown self.old) (kind_of read.now) (numbers_of read.now) (text_of text.new) result (shown self.new) }
     {
         let Some(numbers) = read.numbers() else {
             unreachable()
@@ -159,11 +166,23 @@ impl Host {
         statements_after(kind, reply)
     }
 
-    // Answers an input line, or whatever bytes stand for one: the text becomes the filled line. The answer is how many
-    // statement lines follow it. A line of which only as many bytes are given as a text holds has the same answer.
-    pub fn answer(&mut self, line: &[u8], text: &mut Text) -> usize
-        ensures whole { Answers (shown self.old) line.now (text_of text.new) result (shown self.new) }
-        ensures begun { (w : List ℕ) → cut w ≡ line.now → Answers (shown self.old) w (text_of text.new) result (shown self.new) }
+    // Answers an input line, or whatever bytes stand for one.
+    pub fn answer(&mut self, line: &[u8]) -> Answered
+        ensures { Answers (shown self.old) line.now result (shown self.new) }
+    {
+        let mut text = Text::new();
+        let statements = self.answer_into(line, &mut text);
+        Answered {
+            text: Some(text),
+            statements,
+        }
+    }
+
+    // The same in a text that the caller lends: it becomes the filled line. The answer is how many statement lines follow
+    // it. A line of which only as many bytes are given as a text holds has the same answer.
+    pub fn answer_into(&mut self, line: &[u8], text: &mut Text) -> usize
+        ensures whole { AnswersText (shown self.old) line.now (text_of text.new) result (shown self.new) }
+        ensures begun { (w : List ℕ) → cut w ≡ line.now → AnswersText (shown self.old) w (text_of text.new) result (shown self.new) }
     {
         let read = read_input(line);
         match &read {

@@ -7,4 +7,4 @@ mod host;
 mod places;
 mod unread;
 
-pub use host::Host;
+pub use host::{Answered, Host};

@@ -1,6 +1,6 @@
 -- How long lines are.
 use Rattle.std.proofs.Common.{ℕ, ◌*◌, ◌≤◌, List, [], ◌∷◌, ◌++◌, length, take, decimal, ap, arith}
-use Rattle.std.specs.List.{AllByRecursion as All}
+use Rattle.std.specs.List.{AllByRecursion}
 use Rattle.std.proofs.lemmas.List.{length-append, length-take-le}
 use Rattle.std.proofs.lemmas.Fmt.{length-decimal-le}
 use Rattle.grammar.specs.Kinds.{Short}
@@ -12,7 +12,7 @@ use Rattle.grammar.proofs.Tables.{input_table, filled_table}
 pub len_number : (d n : ℕ) → Wide d → Short d n → length (decimal n) ≤ d
 len_number d n w s = length-decimal-le d n w.0 s (short_fits d n w s)
 
-len_fields_8 : (ns : List ℕ) → All (Short 8) ns → length (fields_text ns) ≤ 9 * length ns
+len_fields_8 : (ns : List ℕ) → AllByRecursion (Short 8) ns → length (fields_text ns) ≤ 9 * length ns
 len_fields_8 [] h = omega arith
 len_fields_8 (n ∷ ns) h =
     let a = length-append (decimal n) (fields_text ns) in

@@ -1,7 +1,7 @@
 -- Whole lines: from a scan to what was written.
 use Rattle.std.proofs.Common.{◌≡◌, ℕ, zero, suc, ◌+◌, ◌-◌, ◌<◌, List, [], ◌∷◌, ◌++◌, map, length, take, drop, Some, decimal, sym, refl, ap, ◌∙◌, subst, append_assoc, append-nil, arith, Bor}
 use Rattle.std.specs.Str.Parse.{digits_value}
-use Rattle.std.specs.List.{AllByRecursion as All}
+use Rattle.std.specs.List.{AllByRecursion}
 use Rattle.std.proofs.lemmas.List.{take_at, take-append-drop, length-append, length-map, same_from_push}
 use Rattle.grammar.specs.declared.kinds.Row.{Row}
 use Rattle.grammar.specs.Kinds.{arity, kinds, filled_kinds, Short, IsNumber}
@@ -15,12 +15,12 @@ use Rattle.parts.proofs.Cuts.{take_past}
 use Rattle.grammar.proofs.Steps.{done_after, not_digit_10, answer_delim}
 
 -- fields and what follows them
-pub writes_to : (d : ℕ) (ns ms : List ℕ) (t : List Piece) (v : List ℕ) → All (Short d) ns → Writes t ms v → Writes (shape d (length ns) t) (ns ++ ms) (fields_text ns ++ v)
+pub writes_to : (d : ℕ) (ns ms : List ℕ) (t : List Piece) (v : List ℕ) → AllByRecursion (Short d) ns → Writes t ms v → Writes (shape d (length ns) t) (ns ++ ms) (fields_text ns ++ v)
 writes_to d [] ms t v s h = h
 writes_to d (n ∷ ns) ms t v s h =
     (decimal n ++ (fields_text ns ++ v), ap (λ l. 32 ∷ l) (append_assoc (decimal n) (fields_text ns) v), (n, ns ++ ms, fields_text ns ++ v, refl, s.0, refl, writes_to d ns ms t v s.1 h))
 
-pub writes_from : (d n : ℕ) (t : List Piece) (ms v : List ℕ) → Writes (shape d n t) ms v → (ns : List ℕ) × (ks : List ℕ) × (w : List ℕ) × (length ns ≡ n) × All (Short d) ns × (ms ≡ ns ++ ks) × (v ≡ fields_text ns ++ w) × Writes t ks w
+pub writes_from : (d n : ℕ) (t : List Piece) (ms v : List ℕ) → Writes (shape d n t) ms v → (ns : List ℕ) × (ks : List ℕ) × (w : List ℕ) × (length ns ≡ n) × AllByRecursion (Short d) ns × (ms ≡ ns ++ ks) × (v ≡ fields_text ns ++ w) × Writes t ks w
 writes_from d zero t ms v h = ([], ms, v, refl, tt, refl, refl, h)
 writes_from d (suc n) t ms v h =
     let g = h.2 in
@@ -130,7 +130,7 @@ input_read w k texts rest l start end is =
     let en : p.1 ≡ map (digits_value 10) texts = cc e in
     let nums : p.1 ≡ numbers_of l = en ∙ ap (map (digits_value 10)) (sym is.1) in
     record {
-      digits = subst (All (IsNumber 8)) (sym is.1) start.numbers;
+      digits = subst (AllByRecursion (IsNumber 8)) (sym is.1) start.numbers;
       is = subst (λ x. InputLine x (numbers_of l) w) ek (subst (λ x. InputLine p.0 x w) nums p.3);
       only = λ k' ns h.
           let o = all.only (k' ∷ ns) (input_to k' ns w h) ∙ p.2 in
@@ -161,7 +161,7 @@ filled_read w k texts rest f start end is =
     let q = same_two (map (digits_value 10) texts) p.1 _ _ _ _ tl in
     let nums : p.1 ≡ numbers_of f.line = sym q.0 ∙ ap (map (digits_value 10)) (sym is.1) in
     record {
-      digits = subst (All (IsNumber 8)) (sym is.1) start.numbers;
+      digits = subst (AllByRecursion (IsNumber 8)) (sym is.1) start.numbers;
       answer_digits = end.numbers;
       is = subst (λ x. FilledLine x (numbers_of f.line) (reply_of f) (result_of f) w) ek (subst (λ x. FilledLine p.0 x (reply_of f) (result_of f) w) nums (subst (λ x. FilledLine p.0 p.1 x (result_of f) w) (sym q.1) (subst (λ x. FilledLine p.0 p.1 p.2 x w) (sym q.2) p.5)));
       only = λ k' ns a b h.

@@ -1,6 +1,6 @@
 -- Archive lines and statement lines, as they are written.
 use Rattle.std.specs.Prelude.{◌≡◌, ℕ, ◌-◌, ◌<◌, ◌≤◌, List, [], ◌∷◌, ◌++◌, length, take, Some, decimal}
-use Rattle.std.specs.List.{flat_map, AllByRecursion as All}
+use Rattle.std.specs.List.{flat_map, AllByRecursion}
 use Rattle.grammar.specs.Kinds.{arity, kinds, filled_kinds, Short}
 
 -- each number after a blank
@@ -29,12 +29,12 @@ statement_line (n ∷ ns) = decimal n ++ (fields_text ns ++ (10 ∷ []))
 -- w is the writing of kind k with the numbers ns
 pub record InputLine (k : ℕ) (ns : List ℕ) (w : List ℕ) : Type 0 where
   pub known : arity kinds k ≡ Some (length ns)
-  pub short : All (Short 8) ns
+  pub short : AllByRecursion (Short 8) ns
   pub is : w ≡ input_line k ns
 
 pub record FilledLine (k : ℕ) (ns : List ℕ) (reply result : ℕ) (w : List ℕ) : Type 0 where
   pub known : arity filled_kinds k ≡ Some (length ns)
-  pub short : All (Short 8) ns
+  pub short : AllByRecursion (Short 8) ns
   pub reply_short : Short 8 reply
   pub result_short : Short 8 result
   pub is : w ≡ filled_line k ns reply result
@@ -42,7 +42,7 @@ pub record FilledLine (k : ℕ) (ns : List ℕ) (reply result : ℕ) (w : List �
 -- w is the writing of the ten numbers ns of a statement line
 pub record StatementText (ns : List ℕ) (w : List ℕ) : Type 0 where
   pub ten : length ns ≡ 10
-  pub short : All (Short 16) ns
+  pub short : AllByRecursion (Short 16) ns
   pub is : w ≡ statement_line ns
 
 abbrev pub IsInput : List ℕ → Type 0

@@ -1,7 +1,7 @@
 -- What a line is read as.
 use Rattle.std.specs.Prelude.{◌≡◌, ℕ, List}
 use Rattle.std.specs.Str.Parse.{digits_value}
-use Rattle.std.specs.List.{AllByRecursion as All}
+use Rattle.std.specs.List.{AllByRecursion}
 use Rattle.grammar.specs.Kinds.{IsNumber}
 use Rattle.parts.specs.declared.line.Line.{Line}
 use Rattle.parts.specs.declared.line.Filled.{Filled}
@@ -10,7 +10,7 @@ use Rattle.lines.specs.Lines.{InputLine, FilledLine}
 
 -- w is the writing of the numbers of l, and of no others
 pub record ReadsInput (w : List ℕ) (l : Line) : Type 0 where
-  pub digits : All (IsNumber 8) (parts_of l)
+  pub digits : AllByRecursion (IsNumber 8) (parts_of l)
   pub is : InputLine (kind_of l) (numbers_of l) w
   pub only : (k : ℕ) (ns : List ℕ) → InputLine k ns w → (k ≡ kind_of l) × (ns ≡ numbers_of l)
 
@@ -22,7 +22,7 @@ result_of f = digits_value 10 f.result.now
 
 -- w is the writing of the numbers of f, and of no others
 pub record ReadsFilled (w : List ℕ) (f : Filled) : Type 0 where
-  pub digits : All (IsNumber 8) (parts_of f.line)
+  pub digits : AllByRecursion (IsNumber 8) (parts_of f.line)
   pub answer_digits : IsNumber 8 f.reply.now × IsNumber 8 f.result.now
   pub is : FilledLine (kind_of f.line) (numbers_of f.line) (reply_of f) (result_of f) w
   pub only : (k : ℕ) (ns : List ℕ) (reply result : ℕ) → FilledLine k ns reply result w → (k ≡ kind_of f.line) × (ns ≡ numbers_of f.line) × (reply ≡ reply_of f) × (result ≡ result_of f)

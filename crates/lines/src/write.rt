@@ -1,6 +1,6 @@
 // Writing input lines and filled lines.
 ghost use Rattle.std.specs.Prelude.{◌≡◌, [], ◌++◌, Some, decimal, Decides};
-ghost use Rattle.std.specs.List.{AllByRecursion as All};
+ghost use Rattle.std.specs.List.{AllByRecursion};
 ghost use Rattle.grammar.specs.Kinds.{arity, Short};
 ghost use Rattle.lines.specs.Lines.{before_feed, fields_text, answer_text, filled_line, InputLine, FilledLine};
 ghost use Rattle.lines.specs.Texts.{text_of, cut, WrittenAs};
@@ -24,7 +24,7 @@ fn is_answer(reply: u32, res: u32) -> bool
 
 // Whether all numbers have at most 8 digits.
 fn are_short(numbers: &[u32]) -> bool
-    ensures { Decides result (All (Short 8) numbers.now) }
+    ensures { Decides result (AllByRecursion (Short 8) numbers.now) }
 {
     for n in numbers {
         if !is_short(*n) {

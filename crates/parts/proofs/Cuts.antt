@@ -1,6 +1,6 @@
 -- Lists that are written up to a capacity.
 use Rattle.std.proofs.Common.{◌≡◌, ℕ, ◌+◌, ◌-◌, ◌<◌, ◌≤◌, min, Bool, true, false, List, [], ◌∷◌, ◌++◌, map, length, get_or, take, set, Decides, sym, refl, ap, ◌∙◌, subst, ⊎_elim, append_assoc, append-nil, suc-add, zero-add, arith}
-use Rattle.std.specs.List.{flat_map, AllByRecursion as All}
+use Rattle.std.specs.List.{flat_map, AllByRecursion}
 use Rattle.std.proofs.lemmas.List.{flat_map_more, map_push, take_all, take-take, take-append-le, take_more, take_more_set, length-append, length-take-le}
 use Rattle.std.proofs.lemmas.Bool.{cases_lt}
 use Rattle.std.proofs.ByRecursion.{All-get_or, All-map}
@@ -75,13 +75,13 @@ joined_map f g [] = refl
 joined_map f g (x ∷ xs) = ap (λ l. f (g x) ++ l) (joined_map f g xs)
 
 -- a loop that looks for an element without the property
-pub not_all : {X : Type 0} (P : X → Type 0) (xs : List X) (i : ℕ) (d : X) → i < length xs → (P (get_or xs i d) → ⊥) → Decides false (All P xs)
+pub not_all : {X : Type 0} (P : X → Type 0) (xs : List X) (i : ℕ) (d : X) → i < length xs → (P (get_or xs i d) → ⊥) → Decides false (AllByRecursion P xs)
 not_all P xs i d l never = (λ e. absurd (let z : ◌≡◌ {A = ℕ} 0 1 = cc e in omega arith), λ h. absurd (never (All-get_or P xs i d l h)))
 
-pub all_seen : {X : Type 0} (P : X → Type 0) (xs : List X) (i : ℕ) → length xs ≤ i → All P (take i xs) → Decides true (All P xs)
-all_seen P xs i l h = (λ e. subst (All P) (take_all i xs l) h, λ g. refl)
+pub all_seen : {X : Type 0} (P : X → Type 0) (xs : List X) (i : ℕ) → length xs ≤ i → AllByRecursion P (take i xs) → Decides true (AllByRecursion P xs)
+all_seen P xs i l h = (λ e. subst (AllByRecursion P) (take_all i xs l) h, λ g. refl)
 
-pub decides_map : {X Y : Type 0} (P : Y → Type 0) (f : X → Y) (xs : List X) (r : Bool) → Decides r (All (λ x. P (f x)) xs) → Decides r (All P (map f xs))
+pub decides_map : {X Y : Type 0} (P : Y → Type 0) (f : X → Y) (xs : List X) (r : Bool) → Decides r (AllByRecursion (λ x. P (f x)) xs) → Decides r (AllByRecursion P (map f xs))
 decides_map P f xs r d = (λ e. All-map P f xs (d.0 e), λ h. d.1 (all_of_map P f xs h))
 
 -- a loop that appends the value of one element after another

@@ -1,7 +1,7 @@
 // The numbers of a line, in a fixed place.
 ghost use Rattle.std.specs.Prelude.{◌≡◌, [], ◌∷◌, ◌++◌, map, take, MatchOption};
 ghost use Rattle.std.specs.Str.Parse.{digits_value};
-ghost use Rattle.std.specs.List.{AllByRecursion as All};
+ghost use Rattle.std.specs.List.{AllByRecursion};
 ghost use Rattle.grammar.specs.Kinds.{IsNumber};
 ghost use Rattle.parts.specs.Parts.{parts_of, numbers_of};
 ghost use Rattle.parts.specs.Lists.{nine, list_of};
@@ -65,7 +65,7 @@ impl Numbers {
 
 // The numbers of some fields; none where one is no number of a line.
 fn values(fields: &[&[u8]]) -> Option<Numbers>
-    ensures { MatchOption result (All (IsNumber 8) (map (λ f. f.now) fields.now) → ⊥) (λ n. All (IsNumber 8) (map (λ f. f.now) fields.now) × (list_of n ≡ nine (map (digits_value 10) (map (λ f. f.now) fields.now)))) }
+    ensures { MatchOption result (AllByRecursion (IsNumber 8) (map (λ f. f.now) fields.now) → ⊥) (λ n. AllByRecursion (IsNumber 8) (map (λ f. f.now) fields.now) × (list_of n ≡ nine (map (digits_value 10) (map (λ f. f.now) fields.now)))) }
 {
     let mut numbers = Numbers::new();
     for f in fields {
@@ -77,7 +77,7 @@ fn values(fields: &[&[u8]]) -> Option<Numbers>
 impl Line<'_> {
     // The numbers of the line's fields; none where one is no number of a line.
     pub fn numbers(&self) -> Option<Numbers>
-        ensures { MatchOption result (All (IsNumber 8) (parts_of self.now) → ⊥) (λ n. All (IsNumber 8) (parts_of self.now) × (list_of n ≡ numbers_of self.now)) }
+        ensures { MatchOption result (AllByRecursion (IsNumber 8) (parts_of self.now) → ⊥) (λ n. AllByRecursion (IsNumber 8) (parts_of self.now) × (list_of n ≡ numbers_of self.now)) }
     {
         let mut out: [&[u8]; 7] = [&[]; 7];
         let n = fields_into(self, &mut out);

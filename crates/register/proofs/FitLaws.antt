@@ -1,6 +1,6 @@
 -- Every number of a statement line has at most 16 digits.
 use Rattle.std.proofs.Common.{◌≡◌, ℕ, zero, suc, ◌+◌, ◌-◌, ◌*◌, ◌<◌, ◌≤◌, eqb, List, [], ◌∷◌, ◌++◌, length, get_or, Some, None, mul-le-mul, arith}
-use Rattle.std.specs.List.{range_with_len, flat_map, AllByRecursion as All}
+use Rattle.std.specs.List.{range_with_len, flat_map, AllByRecursion}
 use Rattle.std.proofs.lemmas.Bool.{cond_both}
 use Rattle.draws.specs.Meaning.{Meaning}
 use Rattle.positions.specs.declared.cell.Cell.{Cell}
@@ -48,18 +48,18 @@ module _ (t : SeriesTerms) (r : Ranged t) where
         day = omega (arith, r.day);
       }
 
-any_fits : (l : Line) → Fits l → All Fits (if_any l)
-any_fits l f = cond_both (eqb l.contracts 0) [] (l ∷ []) (λ (xs : List Line). All Fits xs) (λ e. tt) (λ e. (f, tt))
+any_fits : (l : Line) → Fits l → AllByRecursion Fits (if_any l)
+any_fits l f = cond_both (eqb l.contracts 0) [] (l ∷ []) (λ (xs : List Line). AllByRecursion Fits xs) (λ e. tt) (λ e. (f, tt))
 
-both_fit : (xs ys : List Line) → All Fits xs → All Fits ys → All Fits (xs ++ ys)
+both_fit : (xs ys : List Line) → AllByRecursion Fits xs → AllByRecursion Fits ys → AllByRecursion Fits (xs ++ ys)
 both_fit [] ys p q = q
 both_fit (x ∷ xs) ys p q = (p.0, both_fit xs ys p.1 q)
 
-joined_fit : (f : ℕ → List Line) (a n : ℕ) → ((i : ℕ) → i < a + n → All Fits (f i)) → All Fits (flat_map f (range_with_len a n))
+joined_fit : (f : ℕ → List Line) (a n : ℕ) → ((i : ℕ) → i < a + n → AllByRecursion Fits (f i)) → AllByRecursion Fits (flat_map f (range_with_len a n))
 joined_fit f a zero h = tt
 joined_fit f a (suc n) h = both_fit (f a) (flat_map f (range_with_len (a + 1) n)) (h a (omega arith)) (joined_fit f (a + 1) n (λ i lt. h i (omega arith)))
 
-cell_fits : (t : SeriesTerms) (account : ℕ) (c : Cell) → Ranged t → account ≤ 32 → Countable c → All Fits (cell_lines t account c)
+cell_fits : (t : SeriesTerms) (account : ℕ) (c : Cell) → Ranged t → account ≤ 32 → Countable c → AllByRecursion Fits (cell_lines t account c)
 cell_fits t account c r a k =
     both_fit (if_any (exercised_line t account c)) (if_any (covered_line t account c) ++ if_any (uncovered_line t account c))
     (any_fits (exercised_line t account c) (line_fits t r account _ _ c.exercised a k.exercised))
@@ -67,11 +67,11 @@ cell_fits t account c r a k =
     (any_fits (covered_line t account c) (line_fits t r account _ _ c.covered a (omega (arith, k.covered, k.assigned))))
     (any_fits (uncovered_line t account c) (line_fits t r account _ _ (c.assigned - c.covered) a (omega (arith, k.assigned)))))
 
-series_fits : (t : SeriesTerms) (cells : List Cell) → Ranged t → length cells ≤ 32 → ((j : ℕ) → Countable (get_or cells j no_cell)) → All Fits (series_lines t cells)
+series_fits : (t : SeriesTerms) (cells : List Cell) → Ranged t → length cells ≤ 32 → ((j : ℕ) → Countable (get_or cells j no_cell)) → AllByRecursion Fits (series_lines t cells)
 series_fits t cells r n k = joined_fit (λ i. cell_lines t (i + 1) (get_or cells i no_cell)) 0 (length cells) (λ i lt. cell_fits t (i + 1) (get_or cells i no_cell) r (omega arith) (k i))
 
 module _ (s : State) (f : Facts s) where
-  statement_fits : All Fits (statement_lines s)
+  statement_fits : AllByRecursion Fits (statement_lines s)
   statement_fits =
       joined_fit (lines_at s.terms.size s.day s.series.rows) 0 32
       (λ i lt.
@@ -79,10 +79,10 @@ module _ (s : State) (f : Facts s) where
       let r : Ranged t = record { series = omega arith; size = f.ranges.0.1; strike = f.strikes i; day = omega (arith, f.ranges.2) } in
       series_fits t (cells_of s i) r (omega (arith, (f.balanced i (omega arith)).0)) (λ j. countable s f i j (omega arith)))
 
-  written_fits : (room : ℕ) (p : AssignedPass) → All Fits (lines_written s p room)
-  written_fits room p = elim (statement_refusal s p room) as (λ o. All Fits (kept_or o [] (statement_lines s))) [ None ↦ statement_fits | Some r ↦ tt ]
+  written_fits : (room : ℕ) (p : AssignedPass) → AllByRecursion Fits (lines_written s p room)
+  written_fits room p = elim (statement_refusal s p room) as (λ o. AllByRecursion Fits (kept_or o [] (statement_lines s))) [ None ↦ statement_fits | Some r ↦ tt ]
 
-  pub answer_fits : (m : Meaning) (room : ℕ) (p : Pass) (c : Call) → All Fits (answer s m room p c).lines
+  pub answer_fits : (m : Meaning) (room : ℕ) (p : Pass) (c : Call) → AllByRecursion Fits (answer s m room p c).lines
   answer_fits m room (ForInput p) (Open o) = tt
   answer_fits m room (ForInput p) (OfInput c) = tt
   answer_fits m room (ForInput p) (OfExercise c) = tt

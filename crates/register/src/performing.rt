@@ -1,5 +1,5 @@
 ghost use Rattle.std.specs.Prelude.{◌≡◌, List, ◌∷◌, length, Err};
-ghost use Rattle.std.specs.List.{AllByRecursion as All};
+ghost use Rattle.std.specs.List.{AllByRecursion};
 ghost use Rattle.ledger.specs.declared.refusal.Refusal.TheVariants.{PassMisfit};
 ghost use Rattle.book.specs.declared.pass.Pass.TheVariants.{ForInput, ForCut, ForAssigned};
 ghost use Rattle.settlement.specs.Lines.{written};
@@ -239,7 +239,7 @@ pub fn perform<S: Draws>(
     ensures lines { lines.new ≡ written lines.old 0 (answer book.old.state (meaning source.old) (length lines.old) pass call.now).lines }
     ensures register { (o : Opening) (g : List Entry) → Leads o g book.old.state → Leads o (entry pass call.now (meaning source.old) (meaning source.new) (length lines.old) (answer book.old.state (meaning source.old) (length lines.old) pass call.now).lines result.reply ∷ g) book.new.state }
     ensures brief { Brief (replied result.reply) }
-    ensures fits { All Fits (answer book.old.state (meaning source.old) (length lines.old) pass call.now).lines }
+    ensures fits { AllByRecursion Fits (answer book.old.state (meaning source.old) (length lines.old) pass call.now).lines }
     ensures law { Law }
     ensures examples { Examples }
 {

@@ -1,6 +1,6 @@
 -- Statement lines: how long they are, read and written.
 use Rattle.std.proofs.Common.{◌≡◌, ℕ, suc, ◌-◌, ◌*◌, ◌≤◌, List, [], ◌∷◌, ◌++◌, length, decimal, sym, refl, ap, ◌∙◌, subst, append-nil, arith}
-use Rattle.std.specs.List.{AllByRecursion as All}
+use Rattle.std.specs.List.{AllByRecursion}
 use Rattle.std.proofs.lemmas.List.{length-append, take_all}
 use Rattle.grammar.specs.Kinds.{Short}
 use Rattle.lines.specs.Lines.{fields_text, StatementText, IsStatement, LongestStart}
@@ -13,7 +13,7 @@ use Rattle.lines.proofs.Lengths.{len_number, start_length}
 use Rattle.lines.proofs.Made.{started, ended}
 use Rattle.parts.proofs.Front.{places, places_take}
 
-len_fields_16 : (ns : List ℕ) → All (Short 16) ns → length (fields_text ns) ≤ 17 * length ns
+len_fields_16 : (ns : List ℕ) → AllByRecursion (Short 16) ns → length (fields_text ns) ≤ 17 * length ns
 len_fields_16 [] h = omega arith
 len_fields_16 (n ∷ ns) h =
     let a = length-append (decimal n) (fields_text ns) in
@@ -65,7 +65,7 @@ statement_read w ns s h e = record {
   only = λ ms t. h.only ms (statement_to ms w t) ∙ sym e;
 }
 
-pub statement_made : (n : ℕ) (ns all new t u v : List ℕ) → n ∷ ns ≡ all → length all ≡ 10 → Short 16 n → All (Short 16) ns → new ≡ [] → t ≡ cut (new ++ decimal n) → u ≡ cut (t ++ fields_text ns) → v ≡ cut (u ++ (10 ∷ [])) → StatementText all v
+pub statement_made : (n : ℕ) (ns all new t u v : List ℕ) → n ∷ ns ≡ all → length all ≡ 10 → Short 16 n → AllByRecursion (Short 16) ns → new ≡ [] → t ≡ cut (new ++ decimal n) → u ≡ cut (t ++ fields_text ns) → v ≡ cut (u ++ (10 ∷ [])) → StatementText all v
 statement_made n ns all new t u v same ten first short e f g h =
     let l = statement_length (n ∷ ns) (decimal n ++ (fields_text ns ++ (10 ∷ []))) (record { ten = ap length same ∙ ten; short = (first, short); is = refl }) in
     subst (λ xs. StatementText xs v) same

@@ -1,6 +1,6 @@
 // Statement lines.
 ghost use Rattle.std.specs.Prelude.{◌≡◌, ◌-◌, ◌≤◌, ◌∷◌, ◌++◌, length, Decides, MatchResult};
-ghost use Rattle.std.specs.List.{AllByRecursion as All};
+ghost use Rattle.std.specs.List.{AllByRecursion};
 ghost use Rattle.grammar.specs.Kinds.{Short};
 ghost use Rattle.lines.specs.Lines.{fields_text, StatementText, IsStatement, LongestStart};
 ghost use Rattle.statements.specs.Statements.{values_of, ReadsStatement};
@@ -93,7 +93,7 @@ fn is_short(n: u64) -> bool
 
 // Whether all numbers have at most 16 digits.
 fn are_short(values: &[u64]) -> bool
-    ensures { Decides result (All (Short 16) values.now) }
+    ensures { Decides result (AllByRecursion (Short 16) values.now) }
 {
     for n in values {
         if !is_short(*n) {
