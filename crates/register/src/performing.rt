@@ -123,8 +123,8 @@ fn under_input<S: Draws>(
     pass: InputPass,
     call: &Call,
 ) -> Done
-    ensures done { after_of result book.new (meaning source.new) (answer book.old.state (meaning source.old) (length lines.old) (ForInput pass) call.now).lines ≡ answer book.old.state (meaning source.old) (length lines.old) (ForInput pass) call.now }
-    ensures lines { lines.new ≡ written lines.old 0 (answer book.old.state (meaning source.old) (length lines.old) (ForInput pass) call.now).lines }
+    ensures done { after_of result book.new (S.meaning source.new) (answer book.old.state (S.meaning source.old) (length lines.old) (ForInput pass) call.now).lines ≡ answer book.old.state (S.meaning source.old) (length lines.old) (ForInput pass) call.now }
+    ensures lines { lines.new ≡ written lines.old 0 (answer book.old.state (S.meaning source.old) (length lines.old) (ForInput pass) call.now).lines }
 {
     match call {
         Call::OfInput(c) => {
@@ -157,8 +157,8 @@ fn under_cut<S: Draws>(
     pass: CutPass,
     call: &Call,
 ) -> Done
-    ensures done { after_of result book.new (meaning source.new) (answer book.old.state (meaning source.old) (length lines.old) (ForCut pass) call.now).lines ≡ answer book.old.state (meaning source.old) (length lines.old) (ForCut pass) call.now }
-    ensures lines { lines.new ≡ written lines.old 0 (answer book.old.state (meaning source.old) (length lines.old) (ForCut pass) call.now).lines }
+    ensures done { after_of result book.new (S.meaning source.new) (answer book.old.state (S.meaning source.old) (length lines.old) (ForCut pass) call.now).lines ≡ answer book.old.state (S.meaning source.old) (length lines.old) (ForCut pass) call.now }
+    ensures lines { lines.new ≡ written lines.old 0 (answer book.old.state (S.meaning source.old) (length lines.old) (ForCut pass) call.now).lines }
 {
     match call {
         Call::Assign => match book.assign(source, pass) {
@@ -188,8 +188,8 @@ fn under_assigned<S: Draws>(
     pass: AssignedPass,
     call: &Call,
 ) -> Done
-    ensures done { after_of result book.new (meaning source.new) (answer book.old.state (meaning source.old) (length lines.old) (ForAssigned pass) call.now).lines ≡ answer book.old.state (meaning source.old) (length lines.old) (ForAssigned pass) call.now }
-    ensures lines { lines.new ≡ written lines.old 0 (answer book.old.state (meaning source.old) (length lines.old) (ForAssigned pass) call.now).lines }
+    ensures done { after_of result book.new (S.meaning source.new) (answer book.old.state (S.meaning source.old) (length lines.old) (ForAssigned pass) call.now).lines ≡ answer book.old.state (S.meaning source.old) (length lines.old) (ForAssigned pass) call.now }
+    ensures lines { lines.new ≡ written lines.old 0 (answer book.old.state (S.meaning source.old) (length lines.old) (ForAssigned pass) call.now).lines }
 {
     match call {
         Call::GiveStatement => {
@@ -215,8 +215,8 @@ fn dispatch<S: Draws>(
     pass: Pass,
     call: &Call,
 ) -> Done
-    ensures done { after_of result book.new (meaning source.new) (answer book.old.state (meaning source.old) (length lines.old) pass call.now).lines ≡ answer book.old.state (meaning source.old) (length lines.old) pass call.now }
-    ensures lines { lines.new ≡ written lines.old 0 (answer book.old.state (meaning source.old) (length lines.old) pass call.now).lines }
+    ensures done { after_of result book.new (S.meaning source.new) (answer book.old.state (S.meaning source.old) (length lines.old) pass call.now).lines ≡ answer book.old.state (S.meaning source.old) (length lines.old) pass call.now }
+    ensures lines { lines.new ≡ written lines.old 0 (answer book.old.state (S.meaning source.old) (length lines.old) pass call.now).lines }
 {
     match pass {
         Pass::ForInput(p) => under_input(book, source, lines, p, call),
@@ -235,11 +235,11 @@ pub fn perform<S: Draws>(
     pass: Pass,
     call: &Call,
 ) -> Done
-    ensures done { after_of result book.new (meaning source.new) (answer book.old.state (meaning source.old) (length lines.old) pass call.now).lines ≡ answer book.old.state (meaning source.old) (length lines.old) pass call.now }
-    ensures lines { lines.new ≡ written lines.old 0 (answer book.old.state (meaning source.old) (length lines.old) pass call.now).lines }
-    ensures register { (o : Opening) (g : List Entry) → Leads o g book.old.state → Leads o (entry pass call.now (meaning source.old) (meaning source.new) (length lines.old) (answer book.old.state (meaning source.old) (length lines.old) pass call.now).lines result.reply ∷ g) book.new.state }
+    ensures done { after_of result book.new (S.meaning source.new) (answer book.old.state (S.meaning source.old) (length lines.old) pass call.now).lines ≡ answer book.old.state (S.meaning source.old) (length lines.old) pass call.now }
+    ensures lines { lines.new ≡ written lines.old 0 (answer book.old.state (S.meaning source.old) (length lines.old) pass call.now).lines }
+    ensures register { (o : Opening) (g : List Entry) → Leads o g book.old.state → Leads o (entry pass call.now (S.meaning source.old) (S.meaning source.new) (length lines.old) (answer book.old.state (S.meaning source.old) (length lines.old) pass call.now).lines result.reply ∷ g) book.new.state }
     ensures brief { Brief (replied result.reply) }
-    ensures fits { AllByRecursion Fits (answer book.old.state (meaning source.old) (length lines.old) pass call.now).lines }
+    ensures fits { AllByRecursion Fits (answer book.old.state (S.meaning source.old) (length lines.old) pass call.now).lines }
     ensures law { Law }
     ensures examples { Examples }
 {

@@ -10,8 +10,8 @@ offset-bounds-numbers-count c =
 pub bounds-numbers-count : goal.bounds-numbers-count
 bounds-numbers-count c = room c.args.numbers.now c.args.count (omega arith) c.requires
 
-pub overflow-add-result : goal.overflow-add-result
-overflow-add-result c =
+pub overflow_add-result : goal.overflow_add-result
+overflow_add-result c =
     let l = room c.args.numbers.now c.args.count (omega arith) c.requires in
     omega arith
 
