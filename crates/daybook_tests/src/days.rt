@@ -284,7 +284,14 @@ const LAST_DAYS: [Row; 31] = [
 ];
 
 // The line is answered with just that text; `rows` and `i` say in which table it stands, and where.
-fn answers(rt: &impl Abort, host: &mut Host, rows: &str, i: usize, line: &[u8], expected: &[u8]) -> Result<(), Fail> {
+fn answers(
+    rt: &impl Abort,
+    host: &mut Host,
+    rows: &str,
+    i: usize,
+    line: &[u8],
+    expected: &[u8],
+) -> Result<(), Fail> {
     let answered = host.answer(line);
     let filled = answered.text.ok_or("no filled line")?;
     let mut rest = expected
