@@ -1,6 +1,6 @@
 -- How large the amounts of a series' lines are.
 use Rattle.std.proofs.Common.{◌≡◌, ℕ, zero, suc, ◌+◌, ◌-◌, ◌<◌, ◌≤◌, Bool, true, false, cond, eqb, List, [], ◌∷◌, ◌++◌, length, get_or, sum_by, ⊎_elim, mul-le-mul, add-one, arith}
-use Rattle.std.specs.List.{AllByRecursion as All}
+use Rattle.std.specs.List.{AllByRecursion}
 use Rattle.std.proofs.lemmas.List.{get_or_past}
 use Rattle.std.proofs.lemmas.List.Sums.{get_or-le-sum_by}
 use Rattle.std.proofs.lemmas.Bool.{cases_lt}
@@ -21,7 +21,7 @@ either : (b : Bool) (n m : ℕ) → n ≤ m → (cond b n 0 ≤ m) × (cond b 0 
 either true n m h = (h, omega arith)
 either false n m h = (omega arith, h)
 
-any : (P : Line → Type 0) (b : Bool) (l : Line) → P l → All P (cond b [] (l ∷ []))
+any : (P : Line → Type 0) (b : Bool) (l : Line) → P l → AllByRecursion P (cond b [] (l ∷ []))
 any P true l p = tt
 any P false l p = (p, tt)
 
@@ -35,19 +35,19 @@ module _ (t : SeriesTerms) (sized : t.size ≤ 10_000) (struck : t.strike ≤ 1_
       let m = either b (money_for t n) 1_000_000_000_000_000 money in
       record { shares_received = s.0; shares_delivered = s.1; money_paid = m.0; money_received = m.1 }
 
-  cell_small : (account : ℕ) (c : Cell) → Countable c → All SmallLine (cell_lines t account c)
+  cell_small : (account : ℕ) (c : Cell) → Countable c → AllByRecursion SmallLine (cell_lines t account c)
   cell_small account c k =
-      let one : (l : Line) → SmallLine l → All SmallLine (if_any l) = λ l. any SmallLine (eqb l.contracts 0) l in
+      let one : (l : Line) → SmallLine l → AllByRecursion SmallLine (if_any l) = λ l. any SmallLine (eqb l.contracts 0) l in
       let xs = if_any (exercised_line t account c) in
       let ys = if_any (covered_line t account c) in
       let zs = if_any (uncovered_line t account c) in
       All-append SmallLine xs (ys ++ zs) (one (exercised_line t account c) (line_small account Exerciser Other c.exercised k.exercised))
       (All-append SmallLine ys zs (one (covered_line t account c) (line_small account Assignee Covered c.covered (omega (arith, k.covered, k.assigned)))) (one (uncovered_line t account c) (line_small account Assignee Other (c.assigned - c.covered) (omega (arith, k.assigned)))))
 
-  first_small : (cells : List Cell) → ((j : ℕ) → Countable (get_or cells j no_cell)) → (n : ℕ) → All SmallLine (lines_of_first n t cells)
+  first_small : (cells : List Cell) → ((j : ℕ) → Countable (get_or cells j no_cell)) → (n : ℕ) → AllByRecursion SmallLine (lines_of_first n t cells)
   first_small cells k zero = tt
   first_small cells k (suc n) =
-      let go : All SmallLine (lines_of_first (n + 1) t cells) = rw (first_more t cells n) at (All-append SmallLine (lines_of_first n t cells) (cell_lines t (n + 1) (get_or cells n no_cell)) (first_small cells k n) (cell_small (n + 1) (get_or cells n no_cell) (k n))) in
+      let go : AllByRecursion SmallLine (lines_of_first (n + 1) t cells) = rw (first_more t cells n) at (All-append SmallLine (lines_of_first n t cells) (cell_lines t (n + 1) (get_or cells n no_cell)) (first_small cells k n) (cell_small (n + 1) (get_or cells n no_cell) (k n))) in
       rw (add-one n) at go
 
 pub lines_small : LinesSmall

@@ -1,6 +1,6 @@
 -- What every assignment of a series comes to, what its lines come to, and worked examples.
 use Rattle.std.specs.Prelude.{◌≡◌, ℕ, ◌+◌, ◌≤◌, Bool, true, false, List, [], ◌∷◌, length, get_or, sum_by, slice_index, slice_index_or}
-use Rattle.std.specs.List.{AllByRecursion as All}
+use Rattle.std.specs.List.{AllByRecursion}
 use Rattle.draws.specs.Meaning.{Meaning, Below, Agree}
 use Rattle.draws.specs.Sources.{tape}
 use Rattle.positions.specs.declared.cell.Cell.{Cell}
@@ -121,4 +121,4 @@ pub record SmallLine (l : Line) : Type 0 where
   pub money_received : l.money_received ≤ 1_000_000_000_000_000
 
 abbrev pub LinesSmall : Type 0
-LinesSmall = (t : SeriesTerms) (cells : List Cell) → t.size ≤ 10_000 → t.strike ≤ 1_000_000 → ((j : ℕ) → Countable (slice_index_or cells j no_cell)) → All SmallLine (series_lines t cells)
+LinesSmall = (t : SeriesTerms) (cells : List Cell) → t.size ≤ 10_000 → t.strike ≤ 1_000_000 → ((j : ℕ) → Countable (slice_index_or cells j no_cell)) → AllByRecursion SmallLine (series_lines t cells)
