@@ -62,7 +62,7 @@ fn refuse<S: Draws>(
     block: u32,
     places: usize,
 ) -> Option<Unassigned>
-    ensures { result ≡ refusal (meaning source.now) shorts.now exercised block places }
+    ensures { result ≡ refusal (S.meaning source.now) shorts.now exercised block places }
 {
     if places != shorts.len() {
         return Some(Unassigned::PlacesDiffer);
@@ -121,10 +121,10 @@ fn next_block(block: u32, left: u32) -> u32
 // The starting contract, by a draw that cannot be refused; the draw is counted.
 fn draw_start<S: Draws>(source: &mut S, remaining: u32, used: &mut u32) -> u32
     requires some { 0 < remaining }
-    requires supplied { 0 < (meaning source.old).supply }
+    requires supplied { 0 < (S.meaning source.old).supply }
     requires few { used.old < 100_000 }
-    ensures answer { result ≡ (meaning source.old).answer [] remaining }
-    ensures left { meaning source.new ≡ behind remaining (meaning source.old) }
+    ensures answer { result ≡ (S.meaning source.old).answer [] remaining }
+    ensures left { S.meaning source.new ≡ behind remaining (S.meaning source.old) }
     ensures counted { used.new ≡ used.old + 1 }
 {
     *used += 1;
@@ -155,10 +155,10 @@ fn assign<S: Draws>(
     requires few { sum shorts.now ≤ 100_000 }
     requires positive { 1 ≤ block }
     requires enough { exercised ≤ sum shorts.now }
-    requires supplied { draws_needed exercised block ≤ (meaning source.old).supply }
+    requires supplied { draws_needed exercised block ≤ (S.meaning source.old).supply }
     ensures used { result ≡ draws_needed exercised block }
-    ensures shares { assigned.new ≡ assigned_by (meaning source.old) block exercised shorts.now }
-    ensures drawn { meaning source.new ≡ behind_all (bounds (draws_needed exercised block) (sum shorts.now) block) (meaning source.old) }
+    ensures shares { assigned.new ≡ assigned_by (S.meaning source.old) block exercised shorts.now }
+    ensures drawn { S.meaning source.new ≡ behind_all (bounds (draws_needed exercised block) (sum shorts.now) block) (S.meaning source.old) }
 {
     clear(assigned);
     let mut remaining = total(shorts) as u32;
@@ -193,9 +193,9 @@ fn attempt<S: Draws>(
     block: u32,
     assigned: &mut [u32],
 ) -> Result<u32, Unassigned>
-    ensures reply { result ≡ (allocation (meaning source.old) shorts.now exercised block assigned.old).reply }
-    ensures assigned { assigned.new ≡ (allocation (meaning source.old) shorts.now exercised block assigned.old).assigned }
-    ensures source { meaning source.new ≡ (allocation (meaning source.old) shorts.now exercised block assigned.old).source }
+    ensures reply { result ≡ (allocation (S.meaning source.old) shorts.now exercised block assigned.old).reply }
+    ensures assigned { assigned.new ≡ (allocation (S.meaning source.old) shorts.now exercised block assigned.old).assigned }
+    ensures source { S.meaning source.new ≡ (allocation (S.meaning source.old) shorts.now exercised block assigned.old).source }
 {
     match refuse(source, shorts, exercised, block, assigned.len()) {
         Some(cause) => Err(cause),
@@ -212,9 +212,9 @@ pub fn allocate<S: Draws>(
     block: u32,
     assigned: &mut [u32],
 ) -> Result<u32, Unassigned>
-    ensures reply { result ≡ (allocation (meaning source.old) shorts.now exercised block assigned.old).reply }
-    ensures assigned { assigned.new ≡ (allocation (meaning source.old) shorts.now exercised block assigned.old).assigned }
-    ensures source { meaning source.new ≡ (allocation (meaning source.old) shorts.now exercised block assigned.old).source }
+    ensures reply { result ≡ (allocation (S.meaning source.old) shorts.now exercised block assigned.old).reply }
+    ensures assigned { assigned.new ≡ (allocation (S.meaning source.old) shorts.now exercised block assigned.old).assigned }
+    ensures source { S.meaning source.new ≡ (allocation (S.meaning source.old) shorts.now exercised block assigned.old).source }
     ensures settled { AlwaysSettled }
     ensures rests { RestsOnAnswers }
     ensures worked { Worked }

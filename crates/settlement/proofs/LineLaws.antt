@@ -68,25 +68,3 @@ module _ (t : SeriesTerms) where
 
   pub length_first_le : (cells : List Cell) (n : ℕ) → n ≤ length cells → length (lines_of_first n t cells) ≤ lines_needed cells
   length_first_le cells n h = omega (arith, length_first cells n h, sum_by-take-le line_count cells n)
-
-none_counted : (c : Cell) → c.exercised ≡ 0 → c.assigned ≡ 0 → c.covered ≤ c.assigned → line_count c ≡ 0
-none_counted c e a k =
-    let covered : c.covered ≡ 0 = omega arith in
-    let uncovered : c.assigned - c.covered ≡ 0 = omega arith in
-    omega (arith, ap one_if_any e, ap one_if_any covered, ap one_if_any uncovered)
-
--- where nothing is exercised, and so nothing assigned, there are no lines
-pub none_needed : (cells : List Cell) → ((j : ℕ) → (get_or cells j no_cell).covered ≤ (get_or cells j no_cell).assigned) → sum_by (λ c. c.exercised) cells ≡ 0 → sum_by (λ c. c.assigned) cells ≡ 0 → lines_needed cells ≡ 0
-none_needed [] k e a = refl
-none_needed (c ∷ cs) k e a =
-    let x = sum_by-cons (λ (c : Cell). c.exercised) c cs in
-    let y = sum_by-cons (λ (c : Cell). c.assigned) c cs in
-    let here = none_counted c (omega arith) (omega arith) (k 0) in
-    omega (arith, sum_by-cons line_count c cs, here, none_needed cs (λ j. k (suc j)) (omega arith) (omega arith))
-
-pub no_series_lines : (t : SeriesTerms) (cells : List Cell) → lines_needed cells ≡ 0 → series_lines t cells ≡ []
-no_series_lines t cells z = empty (series_lines t cells) (length_series t cells ∙ z)
-  where
-    empty : (xs : List Line) → length xs ≡ 0 → xs ≡ []
-    empty [] h = refl
-    empty (x ∷ xs) h = absurd (omega (arith, h))

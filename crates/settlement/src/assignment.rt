@@ -52,10 +52,10 @@ fn hand_out<S: Draws>(
     block: u32,
     assigned: &mut [u32],
 ) -> u32
-    requires { refusal (meaning source.old) shorts.now exercised block (length assigned.old) ≡ None }
+    requires { refusal (S.meaning source.old) shorts.now exercised block (length assigned.old) ≡ None }
     ensures used { result ≡ draws_needed exercised block }
-    ensures shares { assigned.new ≡ assigned_by (meaning source.old) block exercised shorts.now }
-    ensures drawn { meaning source.new ≡ behind_all (bounds (draws_needed exercised block) (sum shorts.now) block) (meaning source.old) }
+    ensures shares { assigned.new ≡ assigned_by (S.meaning source.old) block exercised shorts.now }
+    ensures drawn { S.meaning source.new ≡ behind_all (bounds (draws_needed exercised block) (sum shorts.now) block) (S.meaning source.old) }
 {
     match allocate(source, shorts, exercised, block, assigned) {
         Ok(used) => used,
@@ -109,11 +109,11 @@ pub fn assign_series<S: Draws>(
     block: u32,
     lapses: bool,
 ) -> u32
-    requires { Assignable (meaning source.old) cells.old size block }
+    requires { Assignable (S.meaning source.old) cells.old size block }
     ensures used { result ≡ draws_for cells.old block }
-    ensures cells { cells.new ≡ (series_outcome (meaning source.old) cells.old collateral.old right size block lapses).cells }
-    ensures collateral { collateral.new ≡ (series_outcome (meaning source.old) cells.old collateral.old right size block lapses).collateral }
-    ensures source { meaning source.new ≡ (series_outcome (meaning source.old) cells.old collateral.old right size block lapses).source }
+    ensures cells { cells.new ≡ (series_outcome (S.meaning source.old) cells.old collateral.old right size block lapses).cells }
+    ensures collateral { collateral.new ≡ (series_outcome (S.meaning source.old) cells.old collateral.old right size block lapses).collateral }
+    ensures source { S.meaning source.new ≡ (series_outcome (S.meaning source.old) cells.old collateral.old right size block lapses).source }
 {
     let exercised = total_exercised(cells);
     if exercised == 0 {

@@ -1,4 +1,4 @@
-ghost use Rattle.std.specs.Prelude.{◌≡◌, ℕ, ◌+◌, ◌≤◌, length, get_or, sum_by, slice_index_or};
+ghost use Rattle.std.specs.Prelude.{◌≡◌, ℕ, ◌+◌, ◌≤◌, length, get_or, slice_index_or};
 ghost use Rattle.positions.specs.Cells.{no_cell};
 ghost use Rattle.settlement.specs.Lines.{exercised_line, covered_line, uncovered_line, if_any, cell_lines, series_lines, one_if_any, line_count, lines_needed, written, Countable};
 
@@ -62,29 +62,14 @@ fn write_account(
     put(lines, last, uncovered_line(terms, account, cell))
 }
 
-// The contracts that all accounts exercised.
-fn exercised_in(cells: &[Cell; 32]) -> u64
-    ensures { result ≡ sum_by (λ c. c.exercised) cells.now }
-{
-    let mut all: u64 = 0;
-    for cell in cells {
-        all += u64::from(cell.exercised);
-    }
-    all
-}
-
 // Writes the lines of one series from a place on, and answers the place after them.
 pub fn write_series(lines: &mut [Line], at: usize, terms: &SeriesTerms, cells: &[Cell; 32]) -> usize
     requires fits { at + lines_needed cells.now ≤ length lines.old }
     requires counts { (j : ℕ) → Countable (slice_index_or cells.now j no_cell) }
-    requires even { sum_by (λ c. c.exercised) cells.now ≡ sum_by (λ c. c.assigned) cells.now }
     requires size { terms.now.size ≤ 10_000 }
     ensures place { result ≡ at + lines_needed cells.now }
     ensures after { lines.new ≡ written lines.old at (series_lines terms.now cells.now) }
 {
-    if exercised_in(cells) == 0 {
-        return at;
-    }
     let mut next = at;
     for i in 0..32 {
         next = write_account(lines, next, terms, i as u32 + 1, &cells[i]);
@@ -108,13 +93,9 @@ fn count_account(cell: &Cell) -> usize
 
 // How many lines a series has.
 pub fn count_series(cells: &[Cell; 32]) -> usize
-    requires covered { (j : ℕ) → (get_or cells.now j no_cell).covered ≤ (get_or cells.now j no_cell).assigned }
-    requires even { sum_by (λ c. c.exercised) cells.now ≡ sum_by (λ c. c.assigned) cells.now }
+    requires { (j : ℕ) → (get_or cells.now j no_cell).covered ≤ (get_or cells.now j no_cell).assigned }
     ensures { result ≡ lines_needed cells.now }
 {
-    if exercised_in(cells) == 0 {
-        return 0;
-    }
     let mut all = 0;
     for cell in cells {
         all += count_account(cell);

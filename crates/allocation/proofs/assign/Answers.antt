@@ -12,47 +12,47 @@ draws-init g c =
     rw c.total-remaining.ensures w
 
 pub loop-at-init : goal.loop-at-init
-loop-at-init g c = rw (stand_first (unassigned c.args.shorts.now c.draws.assigned)) (walked_none c.args.shorts.now c.draws.assigned c.draw-start-start.result c.next-block-count.result c.draws.invariant.size)
+loop-at-init g c = rw (stand_first (unassigned c.args.shorts.now c.draws.assigned)) (walked_none c.args.shorts.now c.draws.assigned c.draw_start-start.result c.next_block-count.result c.draws.invariant.size)
 
 pub draws-preserved : goal.draws-preserved
 draws-preserved g c =
     let old = c.draws.assigned in
     let shorts = c.args.shorts.now in
     let below = g.S.Draws.below c.draws.source in
-    let answer = c.draw-start-start.ensures.answer in
-    let count = c.next-block-count.ensures in
+    let answer = c.draw_start-start.ensures.answer in
+    let count = c.next_block-count.ensures in
     let ready = turn_ready below c.requires.positive c.draws.invariant c.draws-test.true answer count in
     let last : c.loop-at.at ≡ 2 * length (unassigned shorts old) = omega (arith, length_unassigned shorts old) in
-    let end : c.draw-start-start.result + c.next-block-count.result ≤ stand (unassigned shorts old) c.loop-at.at = rw (last, stand_last (unassigned shorts old)) (omega (arith, ready.within, ready.enough)) in
-    rw c.draw-start-start.ensures.counted
-    (turn below c.requires.positive c.draws.invariant c.draws-test.true answer count c.draw-start-start.ensures.left c.loop-at.assigned (omega arith)
-    (walked_all shorts old c.draw-start-start.result c.next-block-count.result _ c.loop-at.skip c.loop-at.need c.loop-at.assigned ready c.loop-at.invariant end))
+    let end : c.draw_start-start.result + c.next_block-count.result ≤ stand (unassigned shorts old) c.loop-at.at = rw (last, stand_last (unassigned shorts old)) (omega (arith, ready.within, ready.enough)) in
+    rw c.draw_start-start.ensures.counted
+    (turn below c.requires.positive c.draws.invariant c.draws-test.true answer count c.draw_start-start.ensures.left c.loop-at.assigned (omega arith)
+    (walked_all shorts old c.draw_start-start.result c.next_block-count.result _ c.loop-at.skip c.loop-at.need c.loop-at.assigned ready c.loop-at.invariant end))
 
-pub overflow-sub-shorts : goal.overflow-sub-shorts
-overflow-sub-shorts g c =
-    let ready = turn_ready (g.S.Draws.below c.draws.source) c.requires.positive c.draws.invariant c.draws-test.true c.draw-start-start.ensures.answer c.next-block-count.ensures in
-    stop_covered c.args.shorts.now c.draws.assigned c.draw-start-start.result c.next-block-count.result c.loop-at.at c.loop-at.skip c.loop-at.need c.loop-at.assigned ready c.around-i.result c.around-i.ensures (omega arith) c.loop-at.invariant
+pub overflow_sub-shorts : goal.overflow_sub-shorts
+overflow_sub-shorts g c =
+    let ready = turn_ready (g.S.Draws.below c.draws.source) c.requires.positive c.draws.invariant c.draws-test.true c.draw_start-start.ensures.answer c.next_block-count.ensures in
+    stop_covered c.args.shorts.now c.draws.assigned c.draw_start-start.result c.next_block-count.result c.loop-at.at c.loop-at.skip c.loop-at.need c.loop-at.assigned ready c.around-i.result c.around-i.ensures (omega arith) c.loop-at.invariant
 
 pub loop-at-preserved : goal.loop-at-preserved
 loop-at-preserved g c =
-    let ready = turn_ready (g.S.Draws.below c.draws.source) c.requires.positive c.draws.invariant c.draws-test.true c.draw-start-start.ensures.answer c.next-block-count.ensures in
-    stop_more c.args.shorts.now c.draws.assigned c.draw-start-start.result c.next-block-count.result c.loop-at.at c.loop-at.skip c.loop-at.need c.loop-at.assigned ready c.around-i.result c.around-i.ensures (omega arith) c.loop-at.invariant
-    c.step-at-step.result.passed c.step-at-step.result.taken c.step-at-step.ensures.passed c.step-at-step.ensures.taken
+    let ready = turn_ready (g.S.Draws.below c.draws.source) c.requires.positive c.draws.invariant c.draws-test.true c.draw_start-start.ensures.answer c.next_block-count.ensures in
+    stop_more c.args.shorts.now c.draws.assigned c.draw_start-start.result c.next_block-count.result c.loop-at.at c.loop-at.skip c.loop-at.need c.loop-at.assigned ready c.around-i.result c.around-i.ensures (omega arith) c.loop-at.invariant
+    c.step_at-step.result.passed c.step_at-step.result.taken c.step_at-step.ensures.passed c.step_at-step.ensures.taken
 
 pub draws-preserved-then-need-eq0 : goal.draws-preserved-then-need-eq0
 draws-preserved-then-need-eq0 g c =
     let shorts = c.args.shorts.now in
     let old = c.draws.assigned in
     let below = g.S.Draws.below c.draws.source in
-    let answer = c.draw-start-start.ensures.answer in
-    let count = c.next-block-count.ensures in
+    let answer = c.draw_start-start.ensures.answer in
+    let count = c.next_block-count.ensures in
     let ready = turn_ready below c.requires.positive c.draws.invariant c.draws-test.true answer count in
     let some = turn_some below c.requires.positive c.draws.invariant c.draws-test.true answer count in
-    let walked = stop_more shorts old c.draw-start-start.result c.next-block-count.result c.loop-at.at c.loop-at.skip c.loop-at.need c.loop-at.assigned ready c.around-i.result c.around-i.ensures (omega arith) c.loop-at.invariant
-    c.step-at-step.result.passed c.step-at-step.result.taken c.step-at-step.ensures.passed c.step-at-step.ensures.taken in
-    rw c.draw-start-start.ensures.counted
-    (turn below c.requires.positive c.draws.invariant c.draws-test.true answer count c.draw-start-start.ensures.left _ (walked.size ∙ sym c.draws.invariant.size)
-    (walked_filled shorts old c.draw-start-start.result c.next-block-count.result _ _ _ _ ready walked some c.if-need-eq0.true))
+    let walked = stop_more shorts old c.draw_start-start.result c.next_block-count.result c.loop-at.at c.loop-at.skip c.loop-at.need c.loop-at.assigned ready c.around-i.result c.around-i.ensures (omega arith) c.loop-at.invariant
+    c.step_at-step.result.passed c.step_at-step.result.taken c.step_at-step.ensures.passed c.step_at-step.ensures.taken in
+    rw c.draw_start-start.ensures.counted
+    (turn below c.requires.positive c.draws.invariant c.draws-test.true answer count c.draw_start-start.ensures.left _ (walked.size ∙ sym c.draws.invariant.size)
+    (walked_filled shorts old c.draw_start-start.result c.next_block-count.result _ _ _ _ ready walked some c.if-need-eq0.true))
 
 pub returns : goal.returns
 returns g c =

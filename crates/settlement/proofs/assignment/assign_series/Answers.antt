@@ -9,11 +9,11 @@ use Rattle.settlement.proofs.Allocated.{due_few, sum_shorts, allocated, assigned
 use Rattle.settlement.proofs.NothingDue.{no_draws, none_cells, none_collateral, none_source}
 use Rattle.settlement.proofs.assignment.assign_series.Goals as goal
 
-pub total-exercised-exercised-requires : goal.total-exercised-exercised-requires
-total-exercised-exercised-requires g c = due_few _ _ _ _ c.requires
+pub total_exercised-exercised-requires : goal.total_exercised-exercised-requires
+total_exercised-exercised-requires g c = due_few _ _ _ _ c.requires
 
-pub settle-none-requires : goal.settle-none-requires
-settle-none-requires g c = c.requires.held
+pub settle_none-requires : goal.settle_none-requires
+settle_none-requires g c = c.requires.held
 
 pub returns-then-exercised-eq0 : goal.returns-then-exercised-eq0
 returns-then-exercised-eq0 g c =
@@ -24,29 +24,29 @@ returns-then-exercised-eq0 g c =
     let size = c.args.size in
     let block = c.args.block in
     let lapses = c.args.lapses in
-    let none : total_due cells ≡ 0 = sym c.total-exercised-exercised.ensures ∙ c.if-exercised-eq0.true in
+    let none : total_due cells ≡ 0 = sym c.total_exercised-exercised.ensures ∙ c.if-exercised-eq0.true in
     record {
       used = sym (no_draws m cells collateral right size block lapses c.requires none);
-      cells = c.settle-none.ensures ∙ none_cells m cells collateral right size block lapses c.requires none;
+      cells = c.settle_none.ensures ∙ none_cells m cells collateral right size block lapses c.requires none;
       collateral = none_collateral m cells collateral right size block lapses c.requires none (omega (arith, c.told-collateral, c.told-cells));
       source = none_source m cells collateral right size block lapses c.requires none;
     }
 
-pub hand-out-used-requires : goal.hand-out-used-requires
-hand-out-used-requires g c =
+pub hand_out-used-requires : goal.hand_out-used-requires
+hand_out-used-requires g c =
     let m = g.S.Draws.meaning c.args.source.now in
     let cells = c.args.cells.now in
     let block = c.args.block in
-    subst (λ (xs : List ℕ). refusal m xs c.total-exercised-exercised.result block 32 ≡ None) (sym c.list-shorts.ensures)
-    (subst (λ (e : ℕ). refusal m (shorts_of cells) e block 32 ≡ None) (sym c.total-exercised-exercised.ensures)
+    subst (λ (xs : List ℕ). refusal m xs c.total_exercised-exercised.result block 32 ≡ None) (sym c.list_shorts.ensures)
+    (subst (λ (e : ℕ). refusal m (shorts_of cells) e block 32 ≡ None) (sym c.total_exercised-exercised.ensures)
     (allocated m cells c.args.size block c.requires 32 refl))
 
-pub settle-all-requires : goal.settle-all-requires
-settle-all-requires g c =
+pub settle_all-requires : goal.settle_all-requires
+settle_all-requires g c =
     let m = g.S.Draws.meaning c.args.source.now in
     let cells = c.args.cells.now in
     let block = c.args.block in
-    let given = handed_out m cells block c.total-exercised-exercised.result c.list-shorts.new.shorts c.hand-out-used.new.assigned c.hand-out-used.ensures.shares c.total-exercised-exercised.ensures c.list-shorts.ensures in
+    let given = handed_out m cells block c.total_exercised-exercised.result c.list_shorts.new.shorts c.hand_out-used.new.assigned c.hand_out-used.ensures.shares c.total_exercised-exercised.ensures c.list_shorts.ensures in
     record {
       held = c.requires.held;
       within = subst (λ (xs : List ℕ). (j : ℕ) → get_or xs j 0 ≤ (get_or cells j no_cell).shorts) (sym given) (assigned_within m cells c.args.size block c.requires (g.S.Draws.below c.args.source.now));
@@ -61,14 +61,14 @@ returns g c =
     let right = c.args.right in
     let size = c.args.size in
     let block = c.args.block in
-    let exercised = c.total-exercised-exercised.ensures in
-    let shorts = c.list-shorts.ensures in
-    let given = handed_out m cells block c.total-exercised-exercised.result c.list-shorts.new.shorts c.hand-out-used.new.assigned c.hand-out-used.ensures.shares exercised shorts in
+    let exercised = c.total_exercised-exercised.ensures in
+    let shorts = c.list_shorts.ensures in
+    let given = handed_out m cells block c.total_exercised-exercised.result c.list_shorts.new.shorts c.hand_out-used.new.assigned c.hand_out-used.ensures.shares exercised shorts in
     record {
-      used = c.hand-out-used.ensures.used ∙ ap (λ (e : ℕ). draws_needed e block) exercised;
-      cells = c.settle-all.ensures.cells ∙ ap (λ (xs : List ℕ). map (cell_after right size c.args.lapses cells collateral xs) (range_with_len 0 (length cells))) given;
-      collateral = c.settle-all.ensures.collateral ∙ ap (λ (xs : List ℕ). map (collateral_after right size collateral xs) (range_with_len 0 (length cells))) given;
-      source = c.hand-out-used.ensures.drawn
-          ∙ ap (λ (e : ℕ). behind_all (bounds (draws_needed e block) (sum c.list-shorts.new.shorts) block) m) exercised
+      used = c.hand_out-used.ensures.used ∙ ap (λ (e : ℕ). draws_needed e block) exercised;
+      cells = c.settle_all.ensures.cells ∙ ap (λ (xs : List ℕ). map (cell_after right size c.args.lapses cells collateral xs) (range_with_len 0 (length cells))) given;
+      collateral = c.settle_all.ensures.collateral ∙ ap (λ (xs : List ℕ). map (collateral_after right size collateral xs) (range_with_len 0 (length cells))) given;
+      source = c.hand_out-used.ensures.drawn
+          ∙ ap (λ (e : ℕ). behind_all (bounds (draws_needed e block) (sum c.list_shorts.new.shorts) block) m) exercised
           ∙ ap (λ (n : ℕ). behind_all (bounds (draws_for cells block) n block) m) (ap sum shorts ∙ sum_shorts cells);
     }

@@ -11,15 +11,15 @@ use Rattle.settlement.proofs.assignment.settle_all.Goals as goal
 pub loop-i-init : goal.loop-i-init
 loop-i-init c = (filled_none _ _ _, filled_none _ _ _)
 
-pub end-day-requires : goal.end-day-requires
-end-day-requires c =
+pub end_day-requires : goal.end_day-requires
+end_day-requires c =
     let i = c.loop-i.i in
     subst (λ (x : Cell). (x.due ≤ x.longs) × (get_or c.args.assigned.now i 0 ≤ x.shorts)) (sym (c.loop-i.invariant.0.rest i (omega arith))) (c.requires.held i, c.requires.within i)
 
-pub shares-left-requires : goal.shares-left-requires
-shares-left-requires c =
+pub shares_left-requires : goal.shares_left-requires
+shares_left-requires c =
     let i = c.loop-i.i in
-    subst (λ (v : ℕ). v * c.args.size ≤ get_or c.loop-i.collateral i 0) (sym c.covered-by-covered.ensures) (covering_delivers c.args.right c.args.size (get_or c.loop-i.collateral i 0) (get_or c.args.assigned.now i 0))
+    subst (λ (v : ℕ). v * c.args.size ≤ get_or c.loop-i.collateral i 0) (sym c.covered_by-covered.ensures) (covering_delivers c.args.right c.args.size (get_or c.loop-i.collateral i 0) (get_or c.args.assigned.now i 0))
 
 pub loop-i-preserved : goal.loop-i-preserved
 loop-i-preserved c =
@@ -27,13 +27,13 @@ loop-i-preserved c =
     let assigned = get_or c.args.assigned.now i 0 in
     let cell = c.loop-i.invariant.0.rest i (omega arith) in
     let shares = c.loop-i.invariant.1.rest i (omega arith) in
-    let covered = c.covered-by-covered.ensures ∙ ap (λ (s : ℕ). covering c.args.right c.args.size s assigned) shares in (
-      filled_more _ _ _ c.loop-i.cells i c.end-day.result c.loop-i.invariant.0 (omega (arith, c.told-cells))
-          (c.end-day.ensures
-          ∙ ap (λ (x : Cell). at_end c.args.lapses (settled x assigned c.covered-by-covered.result)) cell
+    let covered = c.covered_by-covered.ensures ∙ ap (λ (s : ℕ). covering c.args.right c.args.size s assigned) shares in (
+      filled_more _ _ _ c.loop-i.cells i c.end_day.result c.loop-i.invariant.0 (omega (arith, c.told-cells))
+          (c.end_day.ensures
+          ∙ ap (λ (x : Cell). at_end c.args.lapses (settled x assigned c.covered_by-covered.result)) cell
           ∙ ap (λ (v : ℕ). at_end c.args.lapses (settled (get_or c.args.cells.now i no_cell) assigned v)) covered),
-      filled_more _ _ _ c.loop-i.collateral i c.shares-left.result c.loop-i.invariant.1 (omega (arith, c.told-collateral))
-          (c.shares-left.ensures ∙ ap (λ (s : ℕ). s - c.covered-by-covered.result * c.args.size) shares ∙ ap (λ (v : ℕ). get_or c.args.collateral.now i 0 - v * c.args.size) covered),
+      filled_more _ _ _ c.loop-i.collateral i c.shares_left.result c.loop-i.invariant.1 (omega (arith, c.told-collateral))
+          (c.shares_left.ensures ∙ ap (λ (s : ℕ). s - c.covered_by-covered.result * c.args.size) shares ∙ ap (λ (v : ℕ). get_or c.args.collateral.now i 0 - v * c.args.size) covered),
     )
 
 pub returns : goal.returns

@@ -5,8 +5,8 @@ use Rattle.positions.specs.declared.cell.Cell.{Cell}
 use Rattle.positions.specs.Cells.{no_cell}
 use Rattle.settlement.proofs.assignment.total_exercised.Goals as goal
 
-pub overflow-add-all : goal.overflow-add-all
-overflow-add-all c =
+pub overflow_add-all : goal.overflow_add-all
+overflow_add-all c =
     let cells = c.args.cells.now in
     let i = c.loop-cell.cell-index in
     omega (arith, sum_by_more (λ (x : Cell). x.due) cells i no_cell (omega arith), sum_by-take-le (λ (x : Cell). x.due) cells (i + 1))

@@ -2,14 +2,14 @@ use Rattle.std.proofs.Common.{◌≡◌, ◌+◌, ◌≤◌, length, get_or, sym
 use Rattle.positions.specs.Cells.{no_cell}
 use Rattle.settlement.specs.Lines.{cell_lines, lines_of_first, written}
 use Rattle.settlement.proofs.Written.{written_none, written_next}
-use Rattle.settlement.proofs.LineLaws.{first_more, length_first_le, length_series, none_needed, no_series_lines}
+use Rattle.settlement.proofs.LineLaws.{first_more, length_first_le, length_series}
 use Rattle.settlement.proofs.statement.write_series.Goals as goal
 
 pub loop-i-init : goal.loop-i-init
 loop-i-init c = (omega arith, written_none c.args.lines.now c.args.at (omega (arith, c.requires.fits)))
 
-pub write-account-next-requires : goal.write-account-next-requires
-write-account-next-requires c =
+pub write_account-next-requires : goal.write_account-next-requires
+write_account-next-requires c =
     let t = c.args.terms.now in
     let cells = c.args.cells.now in
     let i = c.loop-i.i in
@@ -30,8 +30,8 @@ loop-i-preserved c =
     let new = cell_lines t (i + 1) (get_or cells i no_cell) in
     let more = first_more t cells i in
     let fits : c.args.at + length (lines_of_first (i + 1) t cells) ≤ length c.args.lines.now = omega (arith, length_first_le t cells (i + 1) (omega (arith, c.told-cells)), c.requires.fits) in (
-      omega (arith, ap length more, length-append done new, c.write-account-next.ensures.place, c.loop-i.invariant.0),
-      c.write-account-next.ensures.after ∙ written_next c.args.lines.now c.args.at done new c.loop-i.lines c.loop-i.next (lines_of_first (i + 1) t cells) c.loop-i.invariant.1 c.loop-i.invariant.0 more fits,
+      omega (arith, ap length more, length-append done new, c.write_account-next.ensures.place, c.loop-i.invariant.0),
+      c.write_account-next.ensures.after ∙ written_next c.args.lines.now c.args.at done new c.loop-i.lines c.loop-i.next (lines_of_first (i + 1) t cells) c.loop-i.invariant.1 c.loop-i.invariant.0 more fits,
     )
 
 pub returns : goal.returns
@@ -43,14 +43,4 @@ returns c =
     record {
       place = omega (arith, c.loop-i.invariant.0, ap length whole, length_series t cells);
       after = c.loop-i.invariant.1 ∙ ap (written c.args.lines.now c.args.at) whole;
-    }
-
-pub returns-then-exercised-in-eq0 : goal.returns-then-exercised-in-eq0
-returns-then-exercised-in-eq0 c =
-    let lines = c.args.lines.now in
-    let cells = c.args.cells.now in
-    let z = none_needed cells (λ j. (c.requires.counts j).covered) (omega (arith, c.exercised-in.ensures)) (omega (arith, c.exercised-in.ensures, c.requires.even)) in
-    record {
-      place = omega (arith, z);
-      after = written_none lines c.args.at (omega (arith, c.requires.fits)) ∙ ap (written lines c.args.at) (sym (no_series_lines c.args.terms.now cells z));
     }
