@@ -6,4 +6,4 @@ pub returns-in-Some : goal.returns-in-Some
 returns-in-Some c = (c.loop-d.d, _, omega arith, found _ _ _ c.in-Some.ensures)
 
 pub loop-d-preserved : goal.loop-d-preserved
-loop-d-preserved c = below_more _ _ c.loop-d.invariant (not_found _ _ c.in-default.ensures)
+loop-d-preserved c = below_more _ _ c.loop-d.invariant (not_found _ _ c.in_default.ensures)

@@ -5,14 +5,14 @@ use Rattle.std.proofs.lemmas.Int.Digits.{digits_value_more}
 use Rattle.grammar.proofs.Steps.{digit_in, short_before, digit_is}
 use Rattle.grammar.proofs.scan.value_of.Goals as goal
 
-pub overflow-sub-b : goal.overflow-sub-b
-overflow-sub-b c = (digit_in c.args.digits.now c.loop-b.b-index c.requires (omega arith)).0
+pub overflow_sub-b : goal.overflow_sub-b
+overflow_sub-b c = (digit_in c.args.digits.now c.loop-b.b-index c.requires (omega arith)).0
 
-pub overflow-mul-n : goal.overflow-mul-n
-overflow-mul-n c = let s = short_before c.args.digits.now c.loop-b.b-index c.requires (omega arith) in let e = c.loop-b.invariant in search rules
+pub overflow_mul-n : goal.overflow_mul-n
+overflow_mul-n c = let s = short_before c.args.digits.now c.loop-b.b-index c.requires (omega arith) in let e = c.loop-b.invariant in search rules
 
-pub overflow-add-n : goal.overflow-add-n
-overflow-add-n c = let s = short_before c.args.digits.now c.loop-b.b-index c.requires (omega arith) in let e = c.loop-b.invariant in let d = digit_in c.args.digits.now c.loop-b.b-index c.requires (omega arith) in search rules
+pub overflow_add-n : goal.overflow_add-n
+overflow_add-n c = let s = short_before c.args.digits.now c.loop-b.b-index c.requires (omega arith) in let e = c.loop-b.invariant in let d = digit_in c.args.digits.now c.loop-b.b-index c.requires (omega arith) in search rules
 
 pub loop-b-preserved : goal.loop-b-preserved
 loop-b-preserved c =

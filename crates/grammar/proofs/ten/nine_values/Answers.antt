@@ -6,8 +6,8 @@ use Rattle.grammar.specs.Kinds.{IsNumber}
 use Rattle.grammar.proofs.Maps.{all_of_map, map_map}
 use Rattle.grammar.proofs.ten.nine_values.Goals as goal
 
-pub value-of-requires : goal.value-of-requires
-value-of-requires c =
+pub value_of-requires : goal.value_of-requires
+value_of-requires c =
     let d : Bor (List ℕ) = record { ref_ptr = (0, 0); now = [] } in
     All-get_or (λ f. IsNumber 16 f.now) c.args.digits.now c.loop-i.i d (omega arith) (all_of_map (IsNumber 16) (λ f. f.now) c.args.digits.now c.requires)
 
@@ -16,8 +16,8 @@ loop-i-preserved c =
     let d : Bor (List ℕ) = record { ref_ptr = (0, 0); now = [] } in
     let i = c.loop-i.i in
     let ds = c.args.digits.now in
-    let v = c.value-of.result in
-    (simp length-set c.loop-i.invariant.0, take_more_set c.loop-i.values i v (omega arith) ∙ ap (λ l. l ++ (v ∷ [])) c.loop-i.invariant.1 ∙ ap (λ x. map (λ x. digits_value 10 x.now) (take i ds) ++ (x ∷ [])) c.value-of.ensures ∙ sym (map_push (λ x. digits_value 10 x.now) (take i ds) (get_or ds i d)) ∙ ap (map (λ x. digits_value 10 x.now)) (sym (take_more ds i d (omega arith))))
+    let v = c.value_of.result in
+    (simp length-set c.loop-i.invariant.0, take_more_set c.loop-i.values i v (omega arith) ∙ ap (λ l. l ++ (v ∷ [])) c.loop-i.invariant.1 ∙ ap (λ x. map (λ x. digits_value 10 x.now) (take i ds) ++ (x ∷ [])) c.value_of.ensures ∙ sym (map_push (λ x. digits_value 10 x.now) (take i ds) (get_or ds i d)) ∙ ap (map (λ x. digits_value 10 x.now)) (sym (take_more ds i d (omega arith))))
 
 pub returns : goal.returns
 returns c =
