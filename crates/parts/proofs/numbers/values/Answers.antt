@@ -8,19 +8,19 @@ use Rattle.grammar.proofs.Maps.{all_of_map, map_map}
 use Rattle.parts.proofs.Cuts.{map_next}
 use Rattle.parts.proofs.numbers.values.Goals as goal
 
-pub returns-in-err-number : goal.returns-in-err-number
-returns-in-err-number c =
+pub returns-in_err-number : goal.returns-in_err-number
+returns-in_err-number c =
     let d : Bor (List ℕ) = record { ref_ptr = (0, 0); now = [] } in
-    rw c.from-residual.ensures
-    (λ h. c.in-err-number.ensures (All-get_or (λ f. IsNumber 8 f.now) c.args.fields.now c.loop-f.f-index d (omega arith) (all_of_map (IsNumber 8) (λ f. f.now) c.args.fields.now h)))
+    rw c.from_residual.ensures
+    (λ h. c.in_err-number.ensures (All-get_or (λ f. IsNumber 8 f.now) c.args.fields.now c.loop-f.f-index d (omega arith) (all_of_map (IsNumber 8) (λ f. f.now) c.args.fields.now h)))
 
 pub loop-f-preserved : goal.loop-f-preserved
 loop-f-preserved c =
     let d : Bor (List ℕ) = record { ref_ptr = (0, 0); now = [] } in
     let fs = c.args.fields.now in
     let i = c.loop-f.f-index in
-    let read = c.in-ok-number.ensures in
-    (All-more (λ f. IsNumber 8 f.now) fs i d (omega arith) c.loop-f.invariant.0 read.0, map_next 9 (λ f. digits_value 10 f.now) _ _ c.in-ok-number.field-0 fs i d (omega arith) c.loop-f.invariant.1 read.1 c.push.ensures)
+    let read = c.in_ok-number.ensures in
+    (All-more (λ f. IsNumber 8 f.now) fs i d (omega arith) c.loop-f.invariant.0 read.0, map_next 9 (λ f. digits_value 10 f.now) _ _ c.in_ok-number.field-0 fs i d (omega arith) c.loop-f.invariant.1 read.1 c.push.ensures)
 
 pub returns : goal.returns
 returns c =
