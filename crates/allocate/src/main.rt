@@ -5,6 +5,7 @@ use allocation_text::Order;
 use anyhow::anyhow;
 use std::io;
 use std::io::Read;
+use std::process::ExitCode;
 
 // The most bytes of input that are read.
 const INPUT: u64 = 65_536;
@@ -21,12 +22,13 @@ fn run(rt: &HostRuntime) -> anyhow::Result<()> {
     Ok(())
 }
 
-fn main(rt: HostRuntime) -> anyhow::Result<()> {
+fn main(rt: HostRuntime) -> ExitCode {
     match run(&rt) {
-        Ok(()) => Ok(()),
+        Ok(()) => ExitCode::SUCCESS,
         Err(error) => {
-            eprintln!(rt; "{error}")?;
-            Err(error)
+            // A message that cannot be written leaves the status alone to tell.
+            let _ = eprintln!(rt; "{error}");
+            ExitCode::FAILURE
         },
     }
 }

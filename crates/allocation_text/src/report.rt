@@ -5,6 +5,7 @@ ghost use Rattle.allocation.specs.Allocation.{allocation};
 
 use crate::input::Order;
 use allocation::{Unassigned, allocate};
+use anyhow::anyhow;
 use draws::{Draws, Pair, Recorder, Tape};
 use std::alloc::Global;
 use std::fmt;
@@ -65,7 +66,8 @@ fn draw_lines(
         let count = order.block.min(left);
         left -= count;
         if let Err(cause) = one_draw(remaining.as_slice(), start, count, taken.as_mut_slice()) {
-            return Err(said(heap, cause, 1)?.into());
+            let why = said(heap, cause, 1)?;
+            return Err(anyhow!("{why}"));
         }
         take_away(remaining.as_mut_slice(), taken.as_slice());
         let from = Counts(taken.as_slice());

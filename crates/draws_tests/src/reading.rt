@@ -23,7 +23,7 @@ fn refused(rt: &impl Abort, heap: Global, text: &str, why: &str) -> Result<(), F
 fn reads_an_order(rt: HostRuntime) -> Result<(), Fail> {
     let text = "# four lines\n\nshorts 5 4\n exercised 7 \nblock 3\ntape\n\n";
     let order = Order::parse(rt.alloc(), text)?;
-    assert_eq!(rt; order.shorts.as_slice(), &[5, 4]);
+    assert_eq!(rt; order.shorts.as_slice(), [5, 4].as_slice());
     assert_eq!(rt; order.exercised, 7);
     assert_eq!(rt; order.block, 3);
     assert_eq!(rt; order.tape.len(), 0);
