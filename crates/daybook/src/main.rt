@@ -6,6 +6,7 @@ mod desk;
 use desk::Desk;
 use std::io;
 use std::io::Read;
+use std::process::ExitCode;
 
 fn run(rt: &HostRuntime) -> io::Result<()> {
     let mut desk = Desk::new(rt.alloc(), rt.stdout())?;
@@ -20,12 +21,13 @@ fn run(rt: &HostRuntime) -> io::Result<()> {
     desk.end()
 }
 
-fn main(rt: HostRuntime) -> io::Result<()> {
+fn main(rt: HostRuntime) -> ExitCode {
     match run(&rt) {
-        Ok(()) => Ok(()),
+        Ok(()) => ExitCode::SUCCESS,
         Err(error) => {
-            eprintln!(rt; "{error}")?;
-            Err(error)
-        }
+            // A message that cannot be written leaves the status alone to tell.
+            let _ = eprintln!(rt; "{error}");
+            ExitCode::FAILURE
+        },
     }
 }
