@@ -1,5 +1,5 @@
 -- What a line is read as.
-use Rattle.std.specs.Prelude.{◌≡◌, ℕ, List}
+use Rattle.std.specs.Prelude.{◌≡◌, ℕ, List, map}
 use Rattle.std.specs.Str.Parse.{digits_value}
 use Rattle.std.specs.List.{AllByRecursion}
 use Rattle.grammar.specs.Kinds.{IsNumber}
@@ -26,3 +26,12 @@ pub record ReadsFilled (w : List ℕ) (f : Filled) : Type 0 where
   pub answer_digits : IsNumber 8 f.reply.now × IsNumber 8 f.result.now
   pub is : FilledLine (kind_of f.line) (numbers_of f.line) (reply_of f) (result_of f) w
   pub only : (k : ℕ) (ns : List ℕ) (reply result : ℕ) → FilledLine k ns reply result w → (k ≡ kind_of f.line) × (ns ≡ numbers_of f.line) × (reply ≡ reply_of f) × (result ≡ result_of f)
+
+-- w is the filled line of kind k with the texts of its fields, reply and result
+pub record FieldsFilled (k : ℕ) (texts : List (List ℕ)) (reply result : ℕ) (w : List ℕ) : Type 0 where
+  pub digits : AllByRecursion (IsNumber 8) texts
+  pub is : FilledLine k (map (digits_value 10) texts) reply result w
+
+-- w is the filled line of l with reply and result
+abbrev pub FilledOf : Line → ℕ → ℕ → List ℕ → Type 0
+FilledOf l reply result w = FieldsFilled (kind_of l) (parts_of l) reply result w

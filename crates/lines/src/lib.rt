@@ -5,6 +5,10 @@ mod read;
 mod text;
 mod write;
 
+pub use grammar::{Row, find, number};
+pub use parts::{Filled, Line, Numbers};
 pub use read::{Faulty, read_filled, read_input};
 pub use text::Text;
-pub use write::{fill, fill_faulty, write_input_numbers, write_numbers};
+pub use write::{
+    fill, fill_faulty, write_faulty, write_filled, write_input_numbers, write_numbers,
+};

@@ -17,7 +17,7 @@ pub struct Faulty {
 }
 
 // The fault in a line where so many bytes were left.
-fn fault(line: &[u8], left: usize) -> Faulty
+pub(crate) fn fault(line: &[u8], left: usize) -> Faulty
     requires { (left ≤ length line.now) × (length line.now - left ≤ 170) }
     ensures { result.start ≡ length line.now - left }
 {
@@ -27,7 +27,7 @@ fn fault(line: &[u8], left: usize) -> Faulty
 }
 
 // The kind of an input line, with its fields at the front of `out`.
-fn scan_input<'a>(line: &'a [u8], out: &mut [&'a [u8]; 7]) -> Result<u8, usize>
+fn scan_input_fields<'a>(line: &'a [u8], out: &mut [&'a [u8]; 7]) -> Result<u8, usize>
     ensures { MatchResult result (λ k. (l : Line) → Made k out.new l → ReadsInput line.now l) (λ left. Stuck (Lines kinds feed) line.now left) }
 {
     let head = read_input_start(line, out)?;
@@ -35,13 +35,20 @@ fn scan_input<'a>(line: &'a [u8], out: &mut [&'a [u8]; 7]) -> Result<u8, usize>
     Ok(head.kind)
 }
 
+fn scan_input<'a>(line: &'a [u8]) -> Result<Line<'a>, usize>
+    ensures { MatchResult result (λ l. ReadsInput line.now l) (λ left. Stuck (Lines kinds feed) line.now left) }
+{
+    let mut out: [&'a [u8]; 7] = [&[]; 7];
+    let kind = scan_input_fields(line, &mut out)?;
+    Ok(line_of(kind, &out))
+}
+
 // Reads an input line.
 pub fn read_input<'a>(line: &'a [u8]) -> Result<Line<'a>, Faulty>
     ensures { MatchResult result (λ l. ReadsInput line.now l) (λ f. LongestStart IsInput line.now f.start × (f.start ≤ 66)) }
 {
-    let mut out: [&'a [u8]; 7] = [&[]; 7];
-    match scan_input(line, &mut out) {
-        Ok(kind) => Ok(line_of(kind, &out)),
+    match scan_input(line) {
+        Ok(l) => Ok(l),
         Err(left) => Err(fault(line, left)),
     }
 }

@@ -1,12 +1,15 @@
 // Writing input lines and filled lines.
-ghost use Rattle.std.specs.Prelude.{◌≡◌, [], ◌++◌, Some, decimal, Decides};
-ghost use Rattle.std.specs.List.{AllByRecursion};
-ghost use Rattle.grammar.specs.Kinds.{arity, Short};
+ghost use Rattle.std.specs.Prelude.{◌≡◌, [], ◌++◌, map, length, Some, decimal, Decides};
+ghost use Rattle.std.specs.List.{flat_map, AllByRecursion};
+ghost use Rattle.grammar.specs.Kinds.{arity, filled_kinds, Short, IsNumber};
+ghost use Rattle.grammar.specs.Grammar.{blanked};
 ghost use Rattle.lines.specs.Lines.{before_feed, fields_text, answer_text, filled_line, InputLine, FilledLine};
+ghost use Rattle.lines.specs.Reads.{FilledOf, FieldsFilled};
 ghost use Rattle.lines.specs.Texts.{text_of, cut, WrittenAs};
 
 use super::text::Text;
-use grammar::{Row, all_kinds, find, input_kinds};
+use grammar::{Row, all_kinds, find, input_kinds, number};
+use parts::{Line, fields_into, placed};
 
 // Whether a number has at most 8 digits.
 fn is_short(n: u32) -> bool
@@ -41,6 +44,28 @@ fn is_known(rows: &[Row], kind: u8, fields: usize) -> bool
     match find(rows, kind) {
         Some(place) => rows[place].fields == fields,
         None => false,
+    }
+}
+
+// Whether each field is the writing of a number of a line.
+fn are_numbers(fields: &[&[u8]]) -> bool
+    ensures { Decides result (AllByRecursion (IsNumber 8) (map (λ f. f.now) fields.now)) }
+{
+    for f in fields {
+        let Some(_n) = number(*f) else {
+            return false;
+        };
+    }
+    true
+}
+
+// Appends each field after a blank.
+fn push_fields(text: &mut Text, fields: &[&[u8]])
+    ensures { text_of text.new ≡ cut (text_of text.old ++ flat_map blanked (map (λ f. f.now) fields.now)) }
+{
+    for f in fields {
+        text.push(b' ');
+        text.push_all(*f);
     }
 }
 
@@ -138,4 +163,35 @@ pub fn write_numbers(kind: u8, fields: &[u32], reply: u32, res: u32) -> Option<T
     let mut text = start_text(kind, fields);
     push_answer(&mut text, reply, res);
     Some(text)
+}
+
+// The filled line of a faulty input line, by the length of its longest start that begins a line.
+pub fn write_faulty(length: u32) -> Option<Text>
+    ensures { WrittenAs result (FilledLine 99 [] 2 length) }
+{
+    write_numbers(99, &[], 2, length)
+}
+
+// The filled line of a known kind with these fields, as they stand.
+fn filled_text(kind: u8, fields: &[&[u8]], reply: u32, res: u32) -> Option<Text>
+    requires { arity filled_kinds kind ≡ Some (length (map (λ f. f.now) fields.now)) }
+    ensures { WrittenAs result (FieldsFilled kind (map (λ f. f.now) fields.now) reply res) }
+{
+    if !are_numbers(fields) || !is_answer(reply, res) {
+        return None;
+    }
+    let mut text = Text::new();
+    text.push_number(kind as u64);
+    push_fields(&mut text, fields);
+    push_answer(&mut text, reply, res);
+    Some(text)
+}
+
+// The filled line of a read line, with its fields as they stand; none where one is no number of a line.
+pub fn write_filled(line: &Line<'_>, reply: u32, res: u32) -> Option<Text>
+    ensures { WrittenAs result (FilledOf line.now reply res) }
+{
+    let mut out: [&[u8]; 7] = [&[]; 7];
+    let n = fields_into(line, &mut out);
+    filled_text(line.kind(), placed(&out, n), reply, res)
 }

@@ -8,9 +8,6 @@ use Rattle.lines.proofs.read.read_input.Goals as goal
 pub fault-requires : goal.fault-requires
 fault-requires c = (stuck_fits _ _ _ c.in-Err.ensures, omega (arith, input_start _ _ (input_faulty _ _ c.in-Err.ensures)))
 
-pub returns-in-Ok : goal.returns-in-Ok
-returns-in-Ok c = c.in-Ok.ensures c.line-of.result c.line-of.ensures
-
 pub returns-in-Err : goal.returns-in-Err
 returns-in-Err c =
     let f = subst (LongestStart IsInput c.args.line.now) (sym c.fault.ensures) (input_faulty _ _ c.in-Err.ensures) in

@@ -5,18 +5,18 @@ use Rattle.grammar.proofs.Steps.{stuck_after, answer_delim}
 use Rattle.lines.proofs.Tops.{filled_read, line_made}
 use Rattle.lines.proofs.read.scan_filled.Goals as goal
 
-pub returns-in-err-head : goal.returns-in-err-head
-returns-in-err-head c =
-    let p = err_from_is_err_and c.from-residual.result c.from-residual.ensures.1 in
-    rw (p.1, p.2) (c.in-err-head.ensures answer answer_delim)
+pub returns-in_err-head : goal.returns-in_err-head
+returns-in_err-head c =
+    let p = err_from_is_err_and c.from_residual.result c.from_residual.ensures.1 in
+    rw (p.1, p.2) (c.in_err-head.ensures answer answer_delim)
 
-pub returns-in-err-reply : goal.returns-in-err-reply
-returns-in-err-reply c =
-    let p = err_from_is_err_and c.from-residual-in-err-reply.result c.from-residual-in-err-reply.ensures.1 in
-    let start = c.in-ok-head.ensures in
-    rw (p.1, p.2, start.split) (stuck_after _ _ _ _ _ _ (start.reached answer answer_delim) c.in-err-reply.ensures)
+pub returns-in_err-reply : goal.returns-in_err-reply
+returns-in_err-reply c =
+    let p = err_from_is_err_and c.from_residual-in_err-reply.result c.from_residual-in_err-reply.ensures.1 in
+    let start = c.in_ok-head.ensures in
+    rw (p.1, p.2, start.split) (stuck_after _ _ _ _ _ _ (start.reached answer answer_delim) c.in_err-reply.ensures)
 
 pub returns : goal.returns
 returns c =
-    let start = c.in-ok-head.ensures in
-    filled_read _ _ _ _ _ start c.in-ok-reply.ensures (line_made filled_kinds _ _ _ _ _ _ (λ n e. e) start c.line-of.ensures)
+    let start = c.in_ok-head.ensures in
+    filled_read _ _ _ _ _ start c.in_ok-reply.ensures (line_made filled_kinds _ _ _ _ _ _ (λ n e. e) start c.line_of.ensures)

@@ -1,23 +1,10 @@
 use Rattle.std.proofs.lemmas.Result.{err_from_is_err_and}
-use Rattle.grammar.specs.Kinds.{kinds}
-use Rattle.grammar.specs.Grammar.{feed}
-use Rattle.grammar.proofs.Steps.{stuck_after, not_digit_10}
-use Rattle.grammar.proofs.Tables.{known_filled}
-use Rattle.lines.proofs.Tops.{input_read, line_made}
 use Rattle.lines.proofs.read.scan_input.Goals as goal
 
-pub returns-in-err-head : goal.returns-in-err-head
-returns-in-err-head c =
-    let p = err_from_is_err_and c.from-residual.result c.from-residual.ensures.1 in
-    rw (p.1, p.2) (c.in-err-head.ensures feed not_digit_10)
-
-pub returns-in-err-read-feed : goal.returns-in-err-read-feed
-returns-in-err-read-feed c =
-    let p = err_from_is_err_and c.from-residual-in-err-read-feed.result c.from-residual-in-err-read-feed.ensures.1 in
-    let start = c.in-ok-head.ensures in
-    rw (p.1, p.2, start.split) (stuck_after _ _ _ _ _ _ (start.reached feed not_digit_10) c.in-err-read-feed.ensures)
+pub returns-in_err-kind : goal.returns-in_err-kind
+returns-in_err-kind c =
+    let p = err_from_is_err_and c.from_residual.result c.from_residual.ensures.1 in
+    rw (p.1, p.2) c.in_err-kind.ensures
 
 pub returns : goal.returns
-returns c l made =
-    let start = c.in-ok-head.ensures in
-    input_read _ _ _ _ l start c.in-ok-read-feed.ensures (line_made kinds _ _ _ _ _ l (known_filled c.in-ok-head.head.kind) start made)
+returns c = c.in_ok-kind.ensures c.line_of.result c.line_of.ensures

@@ -13,7 +13,7 @@ returns c =
     let s = c.min-start.result in
     let m = c.min-count.result in
     let n = length-take-le m part (omega arith) in
-    let copied : c.copy-from-slice.new.self ≡ take m part = search rules in
+    let copied : c.copy_from_slice.new.self ≡ take m part = search rules in
     ap (λ l. cut (take (s + m) (put_mid s (s + m - s) bytes l))) copied
     ∙ ap cut (take-put_mid s (s + m - s) bytes (take m part) (s + m) (omega arith) (omega arith))
     ∙ put_part 170 bytes part c.args.len s m (omega arith) c.min-start.ensures c.min-count.ensures

@@ -10,9 +10,9 @@ returns c =
     let b = decimal c.args.res in
     let old = text_of c.args.text.now in
     let mark = 32 ∷ 58 ∷ 32 ∷ [] in
-    let reply = cut_more 170 _ _ old mark a c.push-all.ensures c.push-number.ensures in
+    let reply = cut_more 170 _ _ old mark a c.push_all.ensures c.push_number.ensures in
     let blank = cut_more 170 _ _ old (mark ++ a) (32 ∷ []) reply c.push.ensures in
-    let result = cut_more 170 _ _ old ((mark ++ a) ++ (32 ∷ [])) b blank c.push-number-2.ensures in
+    let result = cut_more 170 _ _ old ((mark ++ a) ++ (32 ∷ [])) b blank c.push_number-2.ensures in
     let all = cut_more 170 _ _ old (((mark ++ a) ++ (32 ∷ [])) ++ b) (10 ∷ []) result c.push-2.ensures in
     let same : (((mark ++ a) ++ (32 ∷ [])) ++ b) ++ (10 ∷ []) ≡ answer_text c.args.reply c.args.res = simp append_assoc in
     all ∙ ap (λ t. cut (old ++ t)) same

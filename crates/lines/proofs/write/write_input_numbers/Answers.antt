@@ -4,4 +4,4 @@ use Rattle.lines.proofs.Made.{input_made}
 use Rattle.lines.proofs.write.write_input_numbers.Goals as goal
 
 pub returns : goal.returns
-returns c = input_made c.args.kind _ _ _ (ap (λ rows. arity rows c.args.kind) (sym c.input-kinds.ensures) ∙ c.if-not-is-known.ensures.0 refl) (c.if-not-are-short.ensures.0 refl) c.start-text-text.ensures c.push.ensures
+returns c = input_made c.args.kind _ _ _ (ap (λ rows. arity rows c.args.kind) (sym c.input_kinds.ensures) ∙ c.if-not-is_known.ensures.0 refl) (c.if-not-are_short.ensures.0 refl) c.start_text-text.ensures c.push.ensures

@@ -11,7 +11,7 @@ returns t c =
     let old = text_of c.args.self.now in
     elim c.if-n-ge10.branch [
       | then-n-ge10 w ↦
-          let before : text_of c.if-n-ge10.self ≡ cut (old ++ decimal (n / 10)) = ap text_of w.self-is ∙ w.push-digits.ensures in
+          let before : text_of c.if-n-ge10.self ≡ cut (old ++ decimal (n / 10)) = ap text_of w.self-is ∙ w.push_digits.ensures in
           cut_more 170 _ _ old (decimal (n / 10)) ((48 + n % 10) ∷ []) before c.push.ensures ∙ ap (λ d. cut (old ++ d)) (sym (decimal_step n (omega arith) (omega arith)))
       | else-n-ge10 w ↦
           let digit : decimal n ≡ (48 + n % 10) ∷ [] = decimal_digit n (omega arith) ∙ ap (λ d. (48 + d) ∷ []) (omega arith) in

@@ -10,4 +10,4 @@ pub returns-then-n-lt100 : goal.returns-then-n-lt100
 returns-then-n-lt100 c =
     let n = c.args.n in
     let two : decimal n ≡ (48 + n / 10) ∷ (48 + n % 10) ∷ [] = decimal_step n (omega arith) (omega arith) ∙ ap (λ d. d ++ ((48 + n % 10) ∷ [])) (decimal_digit (n / 10) (omega arith)) in
-    c.push-all.ensures ∙ ap (λ d. cut (text_of c.args.self.now ++ d)) (sym two)
+    c.push_all.ensures ∙ ap (λ d. cut (text_of c.args.self.now ++ d)) (sym two)
