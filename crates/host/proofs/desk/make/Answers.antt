@@ -20,11 +20,11 @@ returns c =
           step_is
           (answer c.args.book.now.state m (length ps) c.args.pass c.args.call.now)
           (answer c.args.book.now.state (tape u 0) (length ps) c.args.pass c.args.call.now)
-          u ps c.perform-pass.result.reply c.perform-pass.new.book.state c.perform-pass.result.pass n c.reply_of.result c.supply_left.result (unread_of c.keep_last.new.self) c.perform-pass.new.lines
+          u ps c.perform-pass.result.reply c.perform-pass.new.book.state c.perform-pass.result.pass n c.reply_of.result c.supply-left.result (unread_of c.keep_last.new.self) c.perform-pass.new.lines
           c.perform-pass.ensures.done
           (ap (λ x. answer c.args.book.now.state x (length ps) c.args.pass c.args.call.now) e)
           c.reply_of.ensures
-          c.supply_left.ensures
+          c.supply-left.ensures
           c.keep_last.ensures
           c.perform-pass.ensures.lines;
       brief = subst P (sym c.reply_of.ensures) c.perform-pass.ensures.brief;

@@ -2,8 +2,8 @@ use Rattle.std.proofs.Common.{arith}
 use Rattle.host.proofs.Firsts.{room, put_at}
 use Rattle.host.proofs.unread.put.Goals as goal
 
-pub offset-bounds-numbers-count : goal.offset-bounds-numbers-count
-offset-bounds-numbers-count c =
+pub offset_bounds-numbers-count : goal.offset_bounds-numbers-count
+offset_bounds-numbers-count c =
     let l = room c.args.numbers.now c.args.count (omega arith) c.requires in
     omega arith
 
