@@ -2,6 +2,7 @@ ghost use Rattle.daybook.specs.Ends.{EndsAt};
 
 use host::Host;
 use lines::Text;
+use std::alloc::Global;
 use std::io;
 use std::io::{BufWriter, Stdout, Write};
 
