@@ -176,7 +176,11 @@ fn read_kind<'a>(line: &'a [u8], rows: &[Row]) -> Result<Head<'a>, usize>
 }
 
 // The kind and the fields at the start of a line.
-pub(crate) fn read_start<'a>(line: &'a [u8], rows: &[Row], out: &mut [&'a [u8]; 7]) -> Result<Head<'a>, usize>
+pub(crate) fn read_start<'a>(
+    line: &'a [u8],
+    rows: &[Row],
+    out: &mut [&'a [u8]; 7],
+) -> Result<Head<'a>, usize>
     requires { Table rows.now }
     ensures { MatchResult result (λ h. StartRead rows.now line.now h.kind (map (λ d. d.now) (take h.fields out.new)) h.rest.now) (λ left. (t : List Piece) → Delim t → Stuck (Lines rows.now t) line.now left) }
 {

@@ -1,6 +1,6 @@
 -- What a line is read as.
 use Rattle.std.specs.Prelude.{◌≡◌, ℕ, List, map}
-use Rattle.std.specs.Str.Parse.{digits_value}
+use Rattle.std.specs.Str.Parse.{digits_value as value}
 use Rattle.std.specs.List.{AllByRecursion}
 use Rattle.grammar.specs.Kinds.{IsNumber}
 use Rattle.parts.specs.declared.line.Line.{Line}
@@ -15,10 +15,10 @@ pub record ReadsInput (w : List ℕ) (l : Line) : Type 0 where
   pub only : (k : ℕ) (ns : List ℕ) → InputLine k ns w → (k ≡ kind_of l) × (ns ≡ numbers_of l)
 
 abbrev pub reply_of : Filled → ℕ
-reply_of f = digits_value 10 f.reply.now
+reply_of f = value 10 f.reply.now
 
 abbrev pub result_of : Filled → ℕ
-result_of f = digits_value 10 f.result.now
+result_of f = value 10 f.result.now
 
 -- w is the writing of the numbers of f, and of no others
 pub record ReadsFilled (w : List ℕ) (f : Filled) : Type 0 where
@@ -30,7 +30,7 @@ pub record ReadsFilled (w : List ℕ) (f : Filled) : Type 0 where
 -- w is the filled line of kind k with the texts of its fields, reply and result
 pub record FieldsFilled (k : ℕ) (texts : List (List ℕ)) (reply result : ℕ) (w : List ℕ) : Type 0 where
   pub digits : AllByRecursion (IsNumber 8) texts
-  pub is : FilledLine k (map (digits_value 10) texts) reply result w
+  pub is : FilledLine k (map (value 10) texts) reply result w
 
 -- w is the filled line of l with reply and result
 abbrev pub FilledOf : Line → ℕ → ℕ → List ℕ → Type 0

@@ -1,4 +1,4 @@
-use Prim.Native.Nat.{◌≤◌}
+use Rattle.std.proofs.Common.{◌≤◌}
 use Rattle.lines_bench.proofs.lines_bench.Given as goal
 
 abbrev pub invariant-loop-i : goal.invariant-loop-i
