@@ -1,5 +1,5 @@
 -- What an allocation that is not turned back may rest on.
-use Rattle.std.proofs.Common.{◌≡◌, ℕ, ◌≤◌, Bool, true, false, ◌&&◌, eqb, leb, List, [], ◌∷◌, length, Some, None, sum, arith}
+use Rattle.std.proofs.Common.{◌≡◌, ℕ, ◌≤◌, leb, List, length, None, sum}
 use Rattle.std.proofs.lemmas.Bool.{eqb-true, leb-true, and_parts}
 use Rattle.draws.specs.Meaning.{Meaning}
 use Rattle.draws.proofs.Passes.{all_pass}

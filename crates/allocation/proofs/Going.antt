@@ -1,6 +1,5 @@
 -- How far the draws have come, by what is left to do.
-use Rattle.std.proofs.Common.{◌≡◌, ℕ, zero, suc, ◌+◌, ◌-◌, ◌<◌, ◌≤◌, min, List, [], ◌∷◌, map, length, get_or, sum, sym, refl, ap, ◌∙◌, subst, ⊎_elim, arith}
-use Rattle.std.specs.List.{range_with_len}
+use Rattle.std.proofs.Common.{◌≡◌, ℕ, suc, ◌+◌, ◌-◌, ◌<◌, ◌≤◌, min, List, [], length, get_or, sum, sym, refl, ap, ◌∙◌, ⊎_elim, arith}
 use Rattle.std.proofs.lemmas.List.{ext_get_or}
 use Rattle.std.proofs.lemmas.List.FromFn.{fill_by_all}
 use Rattle.std.proofs.lemmas.Bool.{cases_lt}
@@ -8,7 +7,7 @@ use Rattle.draws.specs.Meaning.{Meaning, behind, behind_all}
 use Rattle.allocation.specs.Stretch.{share, less}
 use Rattle.allocation.specs.Assigned.{draws_needed, bounds, assigned_to, assigned_by}
 use Rattle.allocation.proofs.Places.{unassigned, length_less, getd_less, length_unassigned}
-use Rattle.allocation.proofs.Totals.{over, share_sum, share_le, sum_less}
+use Rattle.allocation.proofs.Totals.{share_sum, share_le, sum_less}
 use Rattle.allocation.proofs.Needed.{needed_none, needed_more}
 
 pub record Going (first m : Meaning) (shorts : List ℕ) (exercised block : ℕ) (assigned : List ℕ) (remaining left used : ℕ) : Type 0 where

@@ -1,5 +1,5 @@
 -- What an accepted allocation comes to.
-use Rattle.std.proofs.Common.{◌≡◌, ℕ, zero, suc, ◌+◌, ◌-◌, ◌^◌, ◌<◌, ◌≤◌, min, true, ◌&&◌, eqb, leb, List, [], ◌∷◌, map, length, get_or, Some, None, Ok, Err, sum, Option, sym, refl, ap, ◌∙◌, subst, ⊎_elim, add-one, arith}
+use Rattle.std.proofs.Common.{◌≡◌, ℕ, zero, suc, ◌+◌, ◌-◌, ◌<◌, ◌≤◌, min, List, [], ◌∷◌, map, length, get_or, Some, None, Ok, sum, Option, sym, refl, ap, ◌∙◌, ⊎_elim, add-one, arith}
 use mathlib.Core.Path.{fun_ext}
 use Rattle.std.specs.List.{range_with_len}
 use Rattle.std.proofs.lemmas.List.FromFn.{length-map-range_with_len, get_or-map-range_with_len}
@@ -7,10 +7,10 @@ use Rattle.std.proofs.lemmas.Bool.{cases_lt, eq-eqb, le-leb}
 use Rattle.draws.specs.Meaning.{Meaning, Bound, Below, Agree, behind, behind_all}
 use Rattle.allocation.specs.declared.Unassigned.{Unassigned}
 use Rattle.allocation.specs.Stretch.{share, less}
-use Rattle.allocation.specs.Assigned.{draws_needed, bounds, assigned_to, assigned_by}
-use Rattle.allocation.specs.Allocation.{checks, refusal, outcome, allocation}
+use Rattle.allocation.specs.Assigned.{draws_needed, bounds, assigned_to}
+use Rattle.allocation.specs.Allocation.{refusal, outcome}
 use Rattle.allocation.specs.Laws.{Settled, AlwaysSettled, Same, RestsOnAnswers, Worked, NothingExercised}
-use Rattle.allocation.proofs.Accepted.{Accepted, accepted}
+use Rattle.allocation.proofs.Accepted.{accepted}
 use Rattle.allocation.proofs.Needed.{needed_none, needed_more}
 use Rattle.allocation.proofs.Places.{length_less, getd_less}
 use Rattle.allocation.proofs.Totals.{over, over_more, share_sum, share_le, sum_less}

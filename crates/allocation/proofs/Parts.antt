@@ -1,6 +1,6 @@
 -- Numbers: how many of the contracts [p, p + s) of one account lie in a window [start, stop), the list laid out twice;
 -- and the window cut off at a place P that the walk has reached.
-use Rattle.std.proofs.Common.{◌≡◌, ℕ, ◌+◌, ◌-◌, ◌<◌, ◌≤◌, min, max, ◌⊎◌, inl, inr, ⊎_elim, arith}
+use Rattle.std.proofs.Common.{◌≡◌, ℕ, ◌+◌, ◌-◌, ◌<◌, ◌≤◌, min, max, ◌⊎◌, ⊎_elim, arith}
 
 -- how many places [a, b) and [c, d) share
 abbrev pub overlap : ℕ → ℕ → ℕ → ℕ → ℕ

@@ -1,7 +1,7 @@
 -- The share of an account, contract by contract, is the overlap of its places with the window, the list laid out twice.
-use Rattle.std.proofs.Common.{◌≡◌, ℕ, zero, suc, ◌+◌, ◌-◌, ◌<◌, ◌≤◌, min, max, true, false, cond, ltb, List, length, get_or, sum, sym, refl, ap, ◌∙◌, ⊎_elim, add-one, arith}
+use Rattle.std.proofs.Common.{◌≡◌, ℕ, zero, suc, ◌+◌, ◌-◌, ◌<◌, ◌≤◌, max, cond, ltb, List, length, get_or, sum, sym, ⊎_elim, add-one, arith}
 use Rattle.std.proofs.lemmas.Bool.{cases_lt, cond-true, cond-false, lt-ltb, le-ltb}
-use Rattle.allocation.specs.Stretch.{distance, in_stretch, how_many, ahead, share}
+use Rattle.allocation.specs.Stretch.{in_stretch, how_many, ahead, share}
 use Rattle.allocation.proofs.Parts.{overlap, part}
 use Rattle.allocation.proofs.Places.{ahead_le}
 

@@ -1,7 +1,7 @@
 -- Going down the list of accounts twice: where the walk stands at each step.
 use Rattle.std.proofs.Common.{◌≡◌, ℕ, ◌+◌, ◌-◌, ◌*◌, ◌<◌, ◌≤◌, min, cond, ltb, ◌⊎◌, List, length, get_or, set, sum, sym, refl, ap, ◌∙◌, subst, inl, inr, ⊎_elim, arith}
 use Rattle.std.proofs.lemmas.List.{take_all}
-use Rattle.std.proofs.lemmas.Bool.{cases_lt, cond-true, cond-false, lt-ltb, le-ltb}
+use Rattle.std.proofs.lemmas.Bool.{cases_lt, lt-ltb, le-ltb}
 use Rattle.allocation.specs.Stretch.{ahead}
 use Rattle.allocation.proofs.Places.{unassigned, length_unassigned}
 use Rattle.allocation.proofs.Walk.{Walked, Ready, still_covered, walked_more}

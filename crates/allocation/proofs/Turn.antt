@@ -1,5 +1,5 @@
 -- One turn of the draws, from what the source answered.
-use Rattle.std.proofs.Common.{◌≡◌, ℕ, ◌+◌, ◌-◌, ◌<◌, ◌≤◌, min, List, [], length, get_or, sum, ap, ◌∙◌, arith}
+use Rattle.std.proofs.Common.{◌≡◌, ℕ, ◌+◌, ◌-◌, ◌<◌, min, List, [], length, get_or, sum, ap, ◌∙◌, arith}
 use Rattle.draws.specs.Meaning.{Meaning, Below, behind}
 use Rattle.allocation.specs.Stretch.{share}
 use Rattle.allocation.proofs.Places.{unassigned}

@@ -13,8 +13,8 @@ use settlement::{assign_series, draws_for_series};
 
 // The draws that all series need.
 fn draws_needed(rows: &[Series; 32], block: u32) -> u32
-    requires { (1 ≤ block) × ((block ≤ 1_000) × (((i : ℕ) → i < length rows.now → total_due (slice_index_or rows.now i past_series).cells ≤ 100_000))) }
-    ensures* { λ r. ⌜ r ≡ sum_by (λ r. draws_for r.cells block) rows.now ⌝ }
+    requires { (1 ≤ block) × ((block ≤ 1_000) × ((i : ℕ) → i < length rows.now → total_due (slice_index_or rows.now i past_series).cells ≤ 100_000)) }
+    ensures { result ≡ sum_by (λ r. draws_for r.cells block) rows.now }
 {
     let mut all = 0;
     for row in rows {
@@ -39,10 +39,10 @@ fn assign_rows<S: Draws>(
     previous: u32,
     day: u32,
 )
-    requires { RowsReady terms.now (meaning source.old) rows.old }
-    ensures rows { rows.new ≡ (assigned_rows terms.now previous day (meaning source.old) collateral.old rows.old).rows }
-    ensures collateral { collateral.new ≡ (assigned_rows terms.now previous day (meaning source.old) collateral.old rows.old).collateral }
-    ensures source { meaning source.new ≡ (assigned_rows terms.now previous day (meaning source.old) collateral.old rows.old).source }
+    requires { RowsReady terms.now (S.meaning source.old) rows.old }
+    ensures rows { rows.new ≡ (assigned_rows terms.now previous day (S.meaning source.old) collateral.old rows.old).rows }
+    ensures collateral { collateral.new ≡ (assigned_rows terms.now previous day (S.meaning source.old) collateral.old rows.old).collateral }
+    ensures source { S.meaning source.new ≡ (assigned_rows terms.now previous day (S.meaning source.old) collateral.old rows.old).source }
 {
     for i in 0..32 {
         let lapses = expires(&rows[i], previous, day);
@@ -104,7 +104,7 @@ fn needed(book: &State) -> u32
 pub fn refuse_assignment<S: Draws>(book: &State, source: &S) -> Option<Refusal>
     requires sound { Facts book.now }
     requires cut { book.now.stage ≡ Cut }
-    ensures { result ≡ first_refusal (assignment_checks book.now (meaning source.now)) }
+    ensures { result ≡ first_refusal (assignment_checks book.now (S.meaning source.now)) }
 {
     let needed = needed(book);
     if source.supply() < u64::from(needed) {
@@ -117,10 +117,10 @@ pub fn refuse_assignment<S: Draws>(book: &State, source: &S) -> Option<Refusal>
 pub fn assign<S: Draws>(book: &mut State, source: &mut S) -> u32
     requires sound { Facts book.old }
     requires cut { book.old.stage ≡ Cut }
-    requires supplied { needed book.old ≤ (meaning source.old).supply }
+    requires supplied { needed book.old ≤ (S.meaning source.old).supply }
     ensures used { result ≡ needed book.old }
-    ensures after { book.new ≡ assigned_state book.old (meaning source.old) }
-    ensures source { meaning source.new ≡ (assigning book.old (meaning source.old)).source }
+    ensures after { book.new ≡ assigned_state book.old (S.meaning source.old) }
+    ensures source { S.meaning source.new ≡ (assigning book.old (S.meaning source.old)).source }
 {
     let used = needed(book);
     let mut shares = [0; 32];

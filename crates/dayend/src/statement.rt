@@ -1,4 +1,4 @@
-ghost use Rattle.std.specs.Prelude.{◌≡◌, ℕ, ◌+◌, ◌<◌, ◌≤◌, length, get_or, sum_by, slice_index_or};
+ghost use Rattle.std.specs.Prelude.{◌≡◌, ℕ, ◌+◌, ◌<◌, ◌≤◌, length, get_or, slice_index_or};
 ghost use Rattle.draws.specs.Checks.{first_refusal};
 ghost use Rattle.positions.specs.Cells.{no_cell};
 ghost use Rattle.settlement.specs.Lines.{Countable, written};
@@ -13,7 +13,6 @@ use settlement::{Line, SeriesTerms, count_series, write_series};
 fn count_lines(rows: &[Series; 32]) -> usize
     requires sizes { (i : ℕ) → i < 32 → length (get_or rows.now i past_series).cells ≡ 32 }
     requires counts { (i j : ℕ) → i < 32 → Countable (slice_index_or (get_or rows.now i past_series).cells j no_cell) }
-    requires even { (i : ℕ) → i < 32 → sum_by (λ c. c.exercised) (get_or rows.now i past_series).cells ≡ sum_by (λ c. c.assigned) (get_or rows.now i past_series).cells }
     ensures count { result ≡ rows_needed rows.now }
     ensures few { result ≤ 3_072 }
 {
@@ -43,7 +42,6 @@ fn write_lines(lines: &mut [Line], rows: &[Series; 32], size: u32, day: u32) -> 
     requires sizes { (i : ℕ) → i < 32 → length (get_or rows.now i past_series).cells ≡ 32 }
     requires fits { rows_needed rows.now ≤ length lines.old }
     requires counts { (i j : ℕ) → i < 32 → Countable (slice_index_or (get_or rows.now i past_series).cells j no_cell) }
-    requires even { (i : ℕ) → i < 32 → sum_by (λ c. c.exercised) (get_or rows.now i past_series).cells ≡ sum_by (λ c. c.assigned) (get_or rows.now i past_series).cells }
     requires ranges { (size ≤ 10_000) × (day ≤ 99_999) }
     ensures count { result ≡ rows_needed rows.now }
     ensures few { result ≤ 3_072 }

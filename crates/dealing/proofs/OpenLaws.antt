@@ -1,5 +1,5 @@
 -- An accepted opening, account or series.
-use Rattle.std.proofs.Common.{◌≡◌, ℕ, ◌<◌, ◌≤◌, ◌&&◌, None, arith}
+use Rattle.std.proofs.Common.{◌≡◌, ℕ, ◌<◌, None, arith}
 use Rattle.std.proofs.lemmas.Bool.{and_parts, ltb-true}
 use Rattle.draws.specs.Checks.{first_refusal}
 use Rattle.draws.proofs.Passes.{all_pass}

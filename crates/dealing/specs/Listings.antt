@@ -1,6 +1,5 @@
 -- Opening a book, adding an account, listing a series.
-use Rattle.std.specs.Prelude.{ℕ, ◌+◌, Bool, true, false, not, ◌&&◌, ◌||◌, List, [], ◌∷◌, take, ◌==◌, nat_lt}
-use Rattle.positions.specs.declared.kinds.Right.{Right}
+use Rattle.std.specs.Prelude.{ℕ, Bool, false, not, ◌&&◌, ◌||◌, List, [], ◌∷◌, take, ◌==◌, nat_lt}
 use Rattle.positions.specs.Kinds.{right_of_code, type_of_code, same_right}
 use Rattle.ledger.specs.declared.refusal.Refusal.{Refusal}
 use Rattle.ledger.specs.declared.refusal.Refusal.TheVariants.{OutOfRange, ListedAlready, Full}

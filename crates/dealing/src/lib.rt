@@ -4,5 +4,8 @@
 mod listings;
 mod trades;
 
-pub use listings::{add_account, add_series, refuse_account, refuse_open, refuse_series};
+pub use listings::{
+    add_account, add_series, contract_of, is_same, lists, refuse_account, refuse_open,
+    refuse_series,
+};
 pub use trades::{book_trade, refuse_trade};

@@ -19,7 +19,7 @@ pub fn refuse_open(number: u32, day: u32, size: u32, block: u32) -> Option<Refus
     None
 }
 
-fn contract_of(right: u32, strike: u32, expiry: u32) -> Contract
+pub fn contract_of(right: u32, strike: u32, expiry: u32) -> Contract
     ensures { result ≡ contract_of right strike expiry }
 {
     Contract {
@@ -29,14 +29,14 @@ fn contract_of(right: u32, strike: u32, expiry: u32) -> Contract
     }
 }
 
-fn is_same(one: &Contract, other: &Contract) -> bool
+pub fn is_same(one: &Contract, other: &Contract) -> bool
     ensures { result ≡ same_contract one.now other.now }
 {
     one.right.is(other.right) && one.strike == other.strike && one.expiry == other.expiry
 }
 
 // Whether a listed series has that contract.
-fn lists(listing: &Listing, contract: &Contract) -> bool
+pub fn lists(listing: &Listing, contract: &Contract) -> bool
     requires { listing.now.count ≤ 32 }
     ensures { result ≡ listed listing.now contract.now }
 {

@@ -7,7 +7,7 @@ ghost use Rattle.ledger.specs.Sound.{Facts};
 use ledger::{Refusal, Request, Requests, State, is_within};
 
 // One request more; its number.
-fn push_request(requests: &mut Requests, request: Request) -> u32
+pub fn push_request(requests: &mut Requests, request: Request) -> u32
     requires { requests.old.count < 128 }
     ensures number { result ≡ requests.old.count + 1 }
     ensures after { requests.new ≡ one_request_more requests.old request }

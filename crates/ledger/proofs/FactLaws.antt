@@ -33,7 +33,7 @@ balanced_prop : (s : State) → IsProp (AllBalanced s)
 balanced_prop s = hlevel props
 
 waiting_prop : (s : State) → IsProp (AllWaiting s)
-waiting_prop s = search (props, waiting_one) depth 8
+waiting_prop s p q = λ k i j. waiting_one s.stage (get_or (cells_of s i) j no_cell) (p i j) (q i j) k
 
 strikes_prop : (s : State) → IsProp (Strikes s)
 strikes_prop s = hlevel props

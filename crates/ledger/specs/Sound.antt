@@ -7,7 +7,6 @@ use Rattle.positions.specs.Legs.{no_leg}
 use Rattle.positions.specs.Rows.{total_longs, total_shorts}
 use Rattle.ledger.specs.declared.state.Stage.{Stage}
 use Rattle.ledger.specs.declared.state.Stage.TheVariants.{Input, Cut, Assigned}
-use Rattle.ledger.specs.declared.state.Request.{Request}
 use Rattle.ledger.specs.declared.state.State.{State}
 use Rattle.ledger.specs.Tables.{row, cells_of, no_account, no_request}
 

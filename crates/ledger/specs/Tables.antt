@@ -1,5 +1,5 @@
 -- The tables of a book, at its opening and with a row changed.
-use Rattle.std.specs.Prelude.{ℕ, ◌+◌, ◌-◌, Bool, true, false, List, [], replicate, Some, None, Option, slice_index_or, slice_set}
+use Rattle.std.specs.Prelude.{ℕ, ◌+◌, ◌-◌, true, false, List, [], replicate, None, slice_index_or, slice_set}
 use Rattle.positions.specs.declared.cell.Cell.{Cell}
 use Rattle.positions.specs.declared.leg.Leg.{Leg}
 use Rattle.positions.specs.declared.leg.LegEvent.{LegEvent}
@@ -9,7 +9,6 @@ use Rattle.positions.specs.declared.kinds.Right.TheVariants.{Call}
 use Rattle.positions.specs.declared.criterion.Criterion.TheVariants.{Amount}
 use Rattle.positions.specs.Cells.{no_cell}
 use Rattle.positions.specs.Legs.{no_leg, rebooked, stepped}
-use Rattle.ledger.specs.declared.state.Stage.{Stage}
 use Rattle.ledger.specs.declared.state.Stage.TheVariants as stage
 use Rattle.ledger.specs.declared.state.Account.{Account}
 use Rattle.ledger.specs.declared.state.Accounts.{Accounts}
@@ -18,7 +17,6 @@ use Rattle.ledger.specs.declared.state.Series.{Series}
 use Rattle.ledger.specs.declared.state.Listing.{Listing}
 use Rattle.ledger.specs.declared.state.Legs.{Legs}
 use Rattle.ledger.specs.declared.state.Request.{Request}
-use Rattle.ledger.specs.declared.state.Requests.{Requests}
 use Rattle.ledger.specs.declared.state.State.{State}
 
 -- ── rows ──

@@ -30,7 +30,7 @@ pub enum Refusal {
 
 // A reply with result 0.
 fn plain(number: u32) -> Reply
-    ensures* { λ r. ⌜ r ≡ record { number = number; result = 0 } ⌝ }
+    ensures { result ≡ record { number = number; result = 0 } }
 {
     Reply { number, result: 0 }
 }

@@ -1,5 +1,5 @@
 ghost use Rattle.std.specs.Prelude.{◌≡◌, ◌+◌, ◌<◌};
-ghost use Rattle.ledger.specs.Tables.{opening, cells_of, one_account_more, one_series_more, one_leg_more, leg_rebooked, leg_stepped};
+ghost use Rattle.ledger.specs.Tables.{opening, cells_of, with_cells, one_account_more, one_series_more, one_leg_more, leg_rebooked, leg_stepped};
 
 use crate::state::*;
 use positions::{AccountType, Cell, Criterion, Leg, LegEvent, Right};
@@ -69,6 +69,14 @@ impl State {
         ensures { result ≡ cells_of self.now at }
     {
         self.series.rows[at].cells
+    }
+
+    // Replaces them.
+    pub fn put_cells(&mut self, at: usize, cells: [Cell; 32])
+        requires { at < 32 }
+        ensures { self.new ≡ with_cells self.old at cells }
+    {
+        self.series.rows[at].cells = cells;
     }
 }
 

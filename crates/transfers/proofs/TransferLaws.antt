@@ -1,5 +1,5 @@
 -- Accepted transfers, give-ups, take-ups and position transfers.
-use Rattle.std.proofs.Common.{◌≡◌, ℕ, ◌+◌, ◌-◌, ◌<◌, ◌≤◌, Bool, true, false, not, ◌||◌, ◌≢◌, List, length, get_or, set, None, sym, ◌∙◌, subst, arith, length-set}
+use Rattle.std.proofs.Common.{◌≡◌, ℕ, ◌+◌, ◌-◌, ◌<◌, ◌≤◌, Bool, true, false, not, ◌||◌, List, length, get_or, set, None, sym, ◌∙◌, subst, arith, length-set}
 use Rattle.std.proofs.lemmas.List.Sums.{sum_by-set}
 use Rattle.std.proofs.lemmas.Bool.{leb-true, true≢false, cond_both}
 use Rattle.draws.specs.Checks.{first_refusal}
@@ -11,7 +11,7 @@ use Rattle.positions.specs.declared.leg.LegEvent.TheVariants.{GiveUp, Confirm, R
 use Rattle.positions.specs.declared.kinds.Side.{Side}
 use Rattle.positions.specs.declared.kinds.Side.TheVariants.{Buy, Sell}
 use Rattle.positions.specs.declared.kinds.Effect.{Effect}
-use Rattle.positions.specs.Cells.{no_cell, on_side, booked, unbooked}
+use Rattle.positions.specs.Cells.{no_cell, on_side, unbooked}
 use Rattle.positions.specs.Legs.{no_leg, open_part, rebooked, stepped}
 use Rattle.positions.specs.Rows.{placed, total_longs, total_shorts}
 use Rattle.positions.proofs.CellLaws.{closing_le, unbought, unsold}

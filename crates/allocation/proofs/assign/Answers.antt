@@ -1,4 +1,4 @@
-use Rattle.std.proofs.Common.{◌≡◌, ℕ, ◌+◌, ◌*◌, ◌<◌, ◌≤◌, length, sum, sym, ap, ◌∙◌, arith}
+use Rattle.std.proofs.Common.{◌≡◌, ◌+◌, ◌*◌, ◌≤◌, length, sym, ◌∙◌, arith}
 use Rattle.allocation.proofs.Places.{unassigned, length_unassigned}
 use Rattle.allocation.proofs.Walk.{walked_none, walked_all, walked_filled}
 use Rattle.allocation.proofs.Stops.{stand, stand_first, stand_last, stop_covered, stop_more}

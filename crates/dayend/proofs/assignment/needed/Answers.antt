@@ -2,8 +2,8 @@ use Rattle.std.proofs.Common.{arith}
 use Rattle.dayend.proofs.AssignLaws.{due_few}
 use Rattle.dayend.proofs.assignment.needed.Goals as goal
 
-pub draws-needed-requires : goal.draws-needed-requires
-draws-needed-requires c =
+pub draws_needed-requires : goal.draws_needed-requires
+draws_needed-requires c =
     let s = c.args.book.now in
     let f = c.requires.sound in
     (f.ranges.1.0, (f.ranges.1.1, λ i lt. due_few s i f c.requires.cut (omega (arith, f.tables.1.1))))

@@ -11,8 +11,8 @@ use Rattle.dayend.proofs.cutoff.cut_rows.Goals as goal
 pub loop-i-init : goal.loop-i-init
 loop-i-init c = refl
 
-pub cut-series-requires : goal.cut-series-requires
-cut-series-requires c =
+pub cut_series-requires : goal.cut_series-requires
+cut_series-requires c =
     let s = c.args.book.now in
     let f = c.requires in
     let i = c.loop-i.i in

@@ -13,15 +13,15 @@ pub loop-a-preserved-then-cell-eq0-2 : goal.loop-a-preserved-then-cell-eq0-2
 loop-a-preserved-then-cell-eq0-2 c =
     cells_skip c.args.book.now c.args.at c.loop-a.book c.loop-a.a c.loop-a.invariant (omega (arith, c.requires.rows, c.requires.place)) (omega (arith, c.requires.cells)) c.if-cell-eq0.true c.if-cell-eq0-2.true
 
-pub cut-cell-after-requires : goal.cut-cell-after-requires
-cut-cell-after-requires c =
+pub cut_cell-after-requires : goal.cut_cell-after-requires
+cut_cell-after-requires c =
     let a = c.loop-a.a in
-    let P : State → Type 0 = λ b. get_or c.asked-in-wanted.result a 0 ≡ asked b.requests (a + 1) (c.args.at + 1) in
-    record { wanted = subst P (sym c.loop-a.invariant) (c.asked-in-wanted.ensures a (omega arith)); place = (omega arith, (omega (arith, c.requires.place), (omega arith, omega arith))) }
+    let P : State → Type 0 = λ b. get_or c.asked_in-wanted.result a 0 ≡ asked b.requests (a + 1) (c.args.at + 1) in
+    record { wanted = subst P (sym c.loop-a.invariant) (c.asked_in-wanted.ensures a (omega arith)); place = (omega arith, (omega (arith, c.requires.place), (omega arith, omega arith))) }
 
 pub loop-a-preserved : goal.loop-a-preserved
 loop-a-preserved c =
-    cells_more c.args.book.now c.args.at c.loop-a.book c.loop-a.a c.cut-cell-after.result c.loop-a.invariant (omega (arith, c.requires.rows, c.requires.place)) (omega (arith, c.requires.cells)) c.cut-cell-after.ensures
+    cells_more c.args.book.now c.args.at c.loop-a.book c.loop-a.a c.cut_cell-after.result c.loop-a.invariant (omega (arith, c.requires.rows, c.requires.place)) (omega (arith, c.requires.cells)) c.cut_cell-after.ensures
 
 pub returns : goal.returns
 returns c =

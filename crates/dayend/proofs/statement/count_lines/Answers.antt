@@ -8,19 +8,19 @@ use Rattle.dayend.specs.Statement.{rows_needed}
 use Rattle.dayend.proofs.StatementLaws.{lines_few}
 use Rattle.dayend.proofs.statement.count_lines.Goals as goal
 
-pub count-series-all-requires : goal.count-series-all-requires
-count-series-all-requires c = record { covered = λ j. (c.requires.counts c.loop-row.row-index j c.loop-row-test.true).covered; even = c.requires.even c.loop-row.row-index c.loop-row-test.true }
+pub count_series-all-requires : goal.count_series-all-requires
+count_series-all-requires c j = (c.requires.counts c.loop-row.row-index j c.loop-row-test.true).covered
 
-few : (c : goal.After-count-series-all) → lines_needed (get_or c.args.rows.now c.loop-row.row-index past_series).cells ≤ 96
+few : (c : goal.After-count_series-all) → lines_needed (get_or c.args.rows.now c.loop-row.row-index past_series).cells ≤ 96
 few c = lines_few (get_or c.args.rows.now c.loop-row.row-index past_series).cells (omega (arith, c.requires.sizes c.loop-row.row-index c.loop-row-test.true))
 
-pub overflow-add-all : goal.overflow-add-all
-overflow-add-all c = record { fits = omega (arith, few c, c.count-series-all.ensures, c.loop-row.invariant.1) }
+pub overflow_add-all : goal.overflow_add-all
+overflow_add-all c = omega (arith, few c, c.count_series-all.ensures, c.loop-row.invariant.1)
 
 pub loop-row-preserved : goal.loop-row-preserved
 loop-row-preserved c =
     let more = sum_by_more (λ (r : Series). lines_needed r.cells) c.args.rows.now c.loop-row.row-index past_series (omega (arith, c.told-rows)) in
-    (omega (arith, more, c.count-series-all.ensures, c.loop-row.invariant.0), omega (arith, few c, c.count-series-all.ensures, c.loop-row.invariant.1))
+    (omega (arith, more, c.count_series-all.ensures, c.loop-row.invariant.0), omega (arith, few c, c.count_series-all.ensures, c.loop-row.invariant.1))
 
 pub returns : goal.returns
 returns c = record {

@@ -11,8 +11,8 @@ use Rattle.dayend.proofs.statement.write_lines.Goals as goal
 pub loop-i-init : goal.loop-i-init
 loop-i-init c = (omega arith, written_none c.args.lines.now 0 (omega arith))
 
-pub write-series-next-requires : goal.write-series-next-requires
-write-series-next-requires c =
+pub write_series-next-requires : goal.write_series-next-requires
+write_series-next-requires c =
     let size = c.args.size in
     let day = c.args.day in
     let rows = c.args.rows.now in
@@ -23,8 +23,7 @@ write-series-next-requires c =
     record {
       fits = omega (arith, more, both, own, lines_length_le size day rows (i + 1) (omega (arith, c.told-rows)), c.requires.fits, c.loop-i.invariant.0, c.loop-i.auto.lines);
       counts = λ j. c.requires.counts i j c.loop-i-test.true;
-      even = c.requires.even i c.loop-i-test.true;
-      size = subst (λ (t : SeriesTerms). t.size ≤ 10_000) (sym c.terms-of-terms.ensures) c.requires.ranges.0;
+      size = subst (λ (t : SeriesTerms). t.size ≤ 10_000) (sym c.terms_of-terms.ensures) c.requires.ranges.0;
     }
 
 pub loop-i-preserved : goal.loop-i-preserved
@@ -38,8 +37,8 @@ loop-i-preserved c =
     let more = lines_more size day rows i in
     let own = length_series (terms_at size day rows i) (get_or rows i past_series).cells in
     let fits : 0 + length (first_lines (i + 1) size day rows) ≤ length c.args.lines.now = omega (arith, lines_length_le size day rows (i + 1) (omega (arith, c.told-rows)), c.requires.fits) in
-    let after = c.write-series-next.ensures.after ∙ ap (λ (t : SeriesTerms). written c.loop-i.lines c.loop-i.next (series_lines t (get_or rows i past_series).cells)) c.terms-of-terms.ensures in (
-      omega (arith, ap length more, length-append done new, own, c.write-series-next.ensures.place, c.loop-i.invariant.0),
+    let after = c.write_series-next.ensures.after ∙ ap (λ (t : SeriesTerms). written c.loop-i.lines c.loop-i.next (series_lines t (get_or rows i past_series).cells)) c.terms_of-terms.ensures in (
+      omega (arith, ap length more, length-append done new, own, c.write_series-next.ensures.place, c.loop-i.invariant.0),
       after ∙ written_next c.args.lines.now 0 done new c.loop-i.lines c.loop-i.next (first_lines (i + 1) size day rows) c.loop-i.invariant.1 (omega (arith, c.loop-i.invariant.0)) more fits,
     )
 

@@ -3,8 +3,8 @@ use Rattle.ledger.proofs.FactLaws.{account_placed, series_placed, series_below}
 use Rattle.dealing.proofs.TradeLaws.{quantity_small}
 use Rattle.dealing.proofs.trades.book_trade.Goals as goal
 
-pub place-legs-bought-requires : goal.place-legs-bought-requires
-place-legs-bought-requires c =
+pub place_legs-bought-requires : goal.place_legs-bought-requires
+place_legs-bought-requires c =
     let s = c.args.book.now in
     let t = c.args.t.now in
     let x = account_placed s t.buyer c.requires.sound c.requires.buyer in

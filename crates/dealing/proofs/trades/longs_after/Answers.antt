@@ -5,8 +5,8 @@ use Rattle.ledger.proofs.FactLaws.{account_placed, series_placed, series_below}
 use Rattle.dealing.proofs.TradeLaws.{quantity_small}
 use Rattle.dealing.proofs.trades.longs_after.Goals as goal
 
-pub place-legs-requires : goal.place-legs-requires
-place-legs-requires c =
+pub place_legs-requires : goal.place_legs-requires
+place_legs-requires c =
     let s = c.args.book.now in
     let t = c.args.t.now in
     let x = account_placed s t.buyer c.requires.sound c.requires.buyer in

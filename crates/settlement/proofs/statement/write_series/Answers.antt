@@ -1,4 +1,4 @@
-use Rattle.std.proofs.Common.{◌≡◌, ◌+◌, ◌≤◌, length, get_or, sym, ap, ◌∙◌, arith, length-append}
+use Rattle.std.proofs.Common.{◌≡◌, ◌+◌, ◌≤◌, length, get_or, ap, ◌∙◌, arith, length-append}
 use Rattle.positions.specs.Cells.{no_cell}
 use Rattle.settlement.specs.Lines.{cell_lines, lines_of_first, written}
 use Rattle.settlement.proofs.Written.{written_none, written_next}

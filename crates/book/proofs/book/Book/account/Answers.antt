@@ -8,4 +8,4 @@ pub invariant-of-self : goal.invariant-of-self
 invariant-of-self c =
     let s = c.args.self.now.state in
     let f = facts s c.args.self.now.sound in
-    (sound_at _ _ c.add-account.ensures.after (facts_account_added s c.args.participant c.args.code f (sym c.in-None.ensures)), tt)
+    (sound_at _ _ c.add_account.ensures.after (facts_account_added s c.args.participant c.args.code f (sym c.in-None.ensures)), tt)

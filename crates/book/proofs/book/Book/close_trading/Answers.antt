@@ -7,4 +7,4 @@ pub invariant-of-self : goal.invariant-of-self
 invariant-of-self c =
     let s = c.args.self.now.state in
     let f = facts s c.args.self.now.sound in
-    (sound_at _ _ c.close-trading.ensures (facts_closed s f), tt)
+    (sound_at _ _ c.close_trading.ensures (facts_closed s f), tt)

@@ -4,8 +4,8 @@ use Rattle.exercise.proofs.CriteriaLaws.{settable, settable_placed, facts_criter
 use Rattle.book.proofs.PassLaws.{sound_at}
 use Rattle.book.proofs.book.Book.criterion.Goals as goal
 
-pub set-criterion-requires : goal.set-criterion-requires
-set-criterion-requires c =
+pub set_criterion-requires : goal.set_criterion-requires
+set_criterion-requires c =
     let s = c.args.self.now.state in
     settable_placed s c.args.account c.args.right c.args.form c.args.value (facts s c.args.self.now.sound) (settable s c.args.account c.args.right c.args.form c.args.value (sym c.in-None.ensures))
 
@@ -13,4 +13,4 @@ pub invariant-of-self : goal.invariant-of-self
 invariant-of-self c =
     let s = c.args.self.now.state in
     let f = facts s c.args.self.now.sound in
-    (sound_at _ _ c.set-criterion.ensures (facts_criterion s c.args.account c.args.right c.args.form c.args.value f), tt)
+    (sound_at _ _ c.set_criterion.ensures (facts_criterion s c.args.account c.args.right c.args.form c.args.value f), tt)

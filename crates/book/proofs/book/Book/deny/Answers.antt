@@ -4,8 +4,8 @@ use Rattle.exercise.proofs.RequestLaws.{deniable, facts_denied}
 use Rattle.book.proofs.PassLaws.{sound_at}
 use Rattle.book.proofs.book.Book.deny.Goals as goal
 
-pub refuse-denial-requires : goal.refuse-denial-requires
-refuse-denial-requires c = facts c.args.self.now.state c.args.self.now.sound
+pub refuse_denial-requires : goal.refuse_denial-requires
+refuse_denial-requires c = facts c.args.self.now.state c.args.self.now.sound
 
 pub deny-requires : goal.deny-requires
 deny-requires c =

@@ -4,14 +4,14 @@ use Rattle.transfers.proofs.TransferLaws.{give_up_leg, facts_given_up}
 use Rattle.book.proofs.PassLaws.{sound_at}
 use Rattle.book.proofs.book.Book.give_up.Goals as goal
 
-pub refuse-give-up-requires : goal.refuse-give-up-requires
-refuse-give-up-requires c = facts c.args.self.now.state c.args.self.now.sound
+pub refuse_give_up-requires : goal.refuse_give_up-requires
+refuse_give_up-requires c = facts c.args.self.now.state c.args.self.now.sound
 
-pub give-up-requires : goal.give-up-requires
-give-up-requires c = record { sound = facts c.args.self.now.state c.args.self.now.sound; leg = give_up_leg c.args.self.now.state c.args.leg c.args.participant (sym c.in-None.ensures) }
+pub give_up-requires : goal.give_up-requires
+give_up-requires c = record { sound = facts c.args.self.now.state c.args.self.now.sound; leg = give_up_leg c.args.self.now.state c.args.leg c.args.participant (sym c.in-None.ensures) }
 
 pub invariant-of-self : goal.invariant-of-self
 invariant-of-self c =
     let s = c.args.self.now.state in
     let f = facts s c.args.self.now.sound in
-    (sound_at _ _ c.give-up.ensures (facts_given_up s c.args.leg c.args.participant f (give_up_leg s c.args.leg c.args.participant (sym c.in-None.ensures))), tt)
+    (sound_at _ _ c.give_up.ensures (facts_given_up s c.args.leg c.args.participant f (give_up_leg s c.args.leg c.args.participant (sym c.in-None.ensures))), tt)

@@ -4,8 +4,8 @@ use Rattle.exercise.proofs.CriteriaLaws.{lodgeable, facts_lodged}
 use Rattle.book.proofs.PassLaws.{sound_at}
 use Rattle.book.proofs.book.Book.lodge.Goals as goal
 
-pub refuse-lodge-requires : goal.refuse-lodge-requires
-refuse-lodge-requires c = facts c.args.self.now.state c.args.self.now.sound
+pub refuse_lodge-requires : goal.refuse_lodge-requires
+refuse_lodge-requires c = facts c.args.self.now.state c.args.self.now.sound
 
 pub lodge-requires : goal.lodge-requires
 lodge-requires c =

@@ -4,11 +4,11 @@ use Rattle.transfers.proofs.PositionLaws.{transferable, facts_moved}
 use Rattle.book.proofs.PassLaws.{input_stage, sound_at}
 use Rattle.book.proofs.book.Book.position_transfer.Goals as goal
 
-pub refuse-position-requires : goal.refuse-position-requires
-refuse-position-requires c = facts c.args.self.now.state c.args.self.now.sound
+pub refuse_position-requires : goal.refuse_position-requires
+refuse_position-requires c = facts c.args.self.now.state c.args.self.now.sound
 
-pub move-position-requires : goal.move-position-requires
-move-position-requires c =
+pub move_position-requires : goal.move_position-requires
+move_position-requires c =
     let m = transferable c.args.self.now.state c.args.t.now (sym c.in-None.ensures) in
     record { sound = facts c.args.self.now.state c.args.self.now.sound; from = m.giver; to = m.receiver; listed = m.listed; few = m.small; enough = m.there }
 
@@ -16,5 +16,5 @@ pub invariant-of-self : goal.invariant-of-self
 invariant-of-self c =
     let s = c.args.self.now.state in
     let f = facts s c.args.self.now.sound in
-    let input = input_stage s c.args.pass.now (sym c.fits_input.ensures ∙ c.if-not-fits-input.false) in
-    (sound_at _ _ c.move-position.ensures (facts_moved s c.args.t.now f input (transferable s c.args.t.now (sym c.in-None.ensures))), tt)
+    let input = input_stage s c.args.pass.now (sym c.fits_input.ensures ∙ c.if-not-fits_input.false) in
+    (sound_at _ _ c.move_position.ensures (facts_moved s c.args.t.now f input (transferable s c.args.t.now (sym c.in-None.ensures))), tt)

@@ -4,11 +4,11 @@ use Rattle.exercise.proofs.RequestLaws.{rejectable, request_placed, facts_reques
 use Rattle.book.proofs.PassLaws.{sound_at}
 use Rattle.book.proofs.book.Book.reject_request.Goals as goal
 
-pub refuse-rejection-requires : goal.refuse-rejection-requires
-refuse-rejection-requires c = facts c.args.self.now.state c.args.self.now.sound
+pub refuse_rejection-requires : goal.refuse_rejection-requires
+refuse_rejection-requires c = facts c.args.self.now.state c.args.self.now.sound
 
-pub reject-request-requires : goal.reject-request-requires
-reject-request-requires c =
+pub reject_request-requires : goal.reject_request-requires
+reject_request-requires c =
     let s = c.args.self.now.state in
     let r = rejectable s c.args.request (sym c.in-None.ensures) in
     (r.from, request_placed s c.args.request (facts s c.args.self.now.sound) r)
@@ -17,4 +17,4 @@ pub invariant-of-self : goal.invariant-of-self
 invariant-of-self c =
     let s = c.args.self.now.state in
     let f = facts s c.args.self.now.sound in
-    (sound_at _ _ c.reject-request.ensures (facts_request_rejected s c.args.request f), tt)
+    (sound_at _ _ c.reject_request.ensures (facts_request_rejected s c.args.request f), tt)

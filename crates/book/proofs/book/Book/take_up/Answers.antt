@@ -4,11 +4,11 @@ use Rattle.transfers.proofs.TransferLaws.{take_up_leg, confirmable, facts_taken_
 use Rattle.book.proofs.PassLaws.{input_stage, sound_at}
 use Rattle.book.proofs.book.Book.take_up.Goals as goal
 
-pub refuse-take-up-requires : goal.refuse-take-up-requires
-refuse-take-up-requires c = facts c.args.self.now.state c.args.self.now.sound
+pub refuse_take_up-requires : goal.refuse_take_up-requires
+refuse_take_up-requires c = facts c.args.self.now.state c.args.self.now.sound
 
-pub take-up-requires : goal.take-up-requires
-take-up-requires c =
+pub take_up-requires : goal.take_up-requires
+take_up-requires c =
     let s = c.args.self.now.state in
     let h = (sym c.in-None.ensures) in
     record {
@@ -22,5 +22,5 @@ pub invariant-of-self : goal.invariant-of-self
 invariant-of-self c =
     let s = c.args.self.now.state in
     let f = facts s c.args.self.now.sound in
-    let input = input_stage s c.args.pass.now (sym c.fits_input.ensures ∙ c.if-not-fits-input.false) in
-    (sound_at _ _ c.take-up.ensures (facts_taken_up s c.args.leg c.args.answer c.args.account f input (sym c.in-None.ensures)), tt)
+    let input = input_stage s c.args.pass.now (sym c.fits_input.ensures ∙ c.if-not-fits_input.false) in
+    (sound_at _ _ c.take_up.ensures (facts_taken_up s c.args.leg c.args.answer c.args.account f input (sym c.in-None.ensures)), tt)

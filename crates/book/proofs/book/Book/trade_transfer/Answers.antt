@@ -4,8 +4,8 @@ use Rattle.transfers.proofs.TransferLaws.{movable, facts_transferred}
 use Rattle.book.proofs.PassLaws.{input_stage, sound_at}
 use Rattle.book.proofs.book.Book.trade_transfer.Goals as goal
 
-pub refuse-transfer-requires : goal.refuse-transfer-requires
-refuse-transfer-requires c = facts c.args.self.now.state c.args.self.now.sound
+pub refuse_transfer-requires : goal.refuse_transfer-requires
+refuse_transfer-requires c = facts c.args.self.now.state c.args.self.now.sound
 
 pub transfer-requires : goal.transfer-requires
 transfer-requires c =
@@ -16,5 +16,5 @@ pub invariant-of-self : goal.invariant-of-self
 invariant-of-self c =
     let s = c.args.self.now.state in
     let f = facts s c.args.self.now.sound in
-    let input = input_stage s c.args.pass.now (sym c.fits_input.ensures ∙ c.if-not-fits-input.false) in
+    let input = input_stage s c.args.pass.now (sym c.fits_input.ensures ∙ c.if-not-fits_input.false) in
     (sound_at _ _ c.transfer.ensures (facts_transferred s c.args.leg c.args.account f input (movable s c.args.leg c.args.account (sym c.in-None.ensures))), tt)

@@ -4,8 +4,8 @@ use Rattle.exercise.proofs.CriteriaLaws.{withdrawable, facts_withdrawn}
 use Rattle.book.proofs.PassLaws.{sound_at}
 use Rattle.book.proofs.book.Book.withdraw.Goals as goal
 
-pub refuse-withdrawal-requires : goal.refuse-withdrawal-requires
-refuse-withdrawal-requires c = facts c.args.self.now.state c.args.self.now.sound
+pub refuse_withdrawal-requires : goal.refuse_withdrawal-requires
+refuse_withdrawal-requires c = facts c.args.self.now.state c.args.self.now.sound
 
 pub withdraw-requires : goal.withdraw-requires
 withdraw-requires c =
