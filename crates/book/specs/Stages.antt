@@ -8,7 +8,7 @@ use Rattle.ledger.specs.declared.refusal.Refusal.TheVariants.{PassMisfit}
 use Rattle.ledger.specs.declared.state.Stage.{Stage}
 use Rattle.ledger.specs.declared.state.Stage.TheVariants.{Input, Cut, Assigned}
 use Rattle.ledger.specs.declared.state.State.{State}
-use Rattle.dayend.specs.Cutoff.{cut_checks, cut}
+use Rattle.dayend.specs.Cutoff.{cut_checks}
 use Rattle.dayend.specs.Assignment.{assignment_checks}
 use Rattle.dayend.specs.Statement.{statement_lines, statement_checks}
 use Rattle.dayend.specs.NextDay.{next_day_checks}

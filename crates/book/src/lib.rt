@@ -3,7 +3,7 @@
 
 mod book;
 mod calls;
-mod exercise;
+mod exercising;
 mod pass;
 mod stages;
 

@@ -59,9 +59,9 @@ impl Book {
         source: &mut S,
         pass: CutPass,
     ) -> Result<(AssignedPass, u32), (CutPass, Refusal)>
-        ensures reply { result ≡ handed (assignment_refusal self.old.state pass (meaning source.old)) pass (assigned_pass pass, needed self.old.state) }
-        ensures after { self.new.state ≡ kept_or (assignment_refusal self.old.state pass (meaning source.old)) self.old.state (assigned_state self.old.state (meaning source.old)) }
-        ensures source { meaning source.new ≡ kept_or (assignment_refusal self.old.state pass (meaning source.old)) (meaning source.old) (assigning self.old.state (meaning source.old)).source }
+        ensures reply { result ≡ handed (assignment_refusal self.old.state pass (S.meaning source.old)) pass (assigned_pass pass, needed self.old.state) }
+        ensures after { self.new.state ≡ kept_or (assignment_refusal self.old.state pass (S.meaning source.old)) self.old.state (assigned_state self.old.state (S.meaning source.old)) }
+        ensures source { S.meaning source.new ≡ kept_or (assignment_refusal self.old.state pass (S.meaning source.old)) (S.meaning source.old) (assigning self.old.state (S.meaning source.old)).source }
     {
         if !fits_cut(&self.state, &pass) {
             return Err((pass, Refusal::PassMisfit));

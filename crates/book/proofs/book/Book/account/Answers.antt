@@ -4,8 +4,8 @@ use Rattle.dealing.proofs.OpenLaws.{facts_account_added}
 use Rattle.book.proofs.PassLaws.{sound_at}
 use Rattle.book.proofs.book.Book.account.Goals as goal
 
-pub invariant-of-self : goal.invariant-of-self
-invariant-of-self c =
+pub invariant_of-self : goal.invariant_of-self
+invariant_of-self c =
     let s = c.args.self.now.state in
     let f = facts s c.args.self.now.sound in
-    (sound_at _ _ c.add_account.ensures.after (facts_account_added s c.args.participant c.args.code f (sym c.in-None.ensures)), tt)
+    record { sound = sound_at _ _ c.add_account.ensures.after (facts_account_added s c.args.participant c.args.code f (sym c.in-None.ensures)) }

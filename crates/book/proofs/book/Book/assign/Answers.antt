@@ -19,10 +19,10 @@ assign-used-requires g c =
       supplied = enough_draws s (g.S.Draws.meaning c.args.source.now) (sym c.in-None.ensures);
     }
 
-pub invariant-of-self : goal.invariant-of-self
-invariant-of-self g c =
+pub invariant_of-self : goal.invariant_of-self
+invariant_of-self g c =
     let s = c.args.self.now.state in
     let m = g.S.Draws.meaning c.args.source.now in
     let f = facts s c.args.self.now.sound in
     let cut = cut_stage s c.args.pass (sym c.fits_cut.ensures ∙ c.if-not-fits_cut.false) in
-    (sound_at _ _ c.assign-used.ensures.after (facts_assigned s m f cut (g.S.Draws.below c.args.source.now) (enough_draws s m (sym c.in-None.ensures))), tt)
+    record { sound = sound_at _ _ c.assign-used.ensures.after (facts_assigned s m f cut (g.S.Draws.below c.args.source.now) (enough_draws s m (sym c.in-None.ensures))) }

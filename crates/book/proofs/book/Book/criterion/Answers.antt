@@ -9,8 +9,8 @@ set_criterion-requires c =
     let s = c.args.self.now.state in
     settable_placed s c.args.account c.args.right c.args.form c.args.value (facts s c.args.self.now.sound) (settable s c.args.account c.args.right c.args.form c.args.value (sym c.in-None.ensures))
 
-pub invariant-of-self : goal.invariant-of-self
-invariant-of-self c =
+pub invariant_of-self : goal.invariant_of-self
+invariant_of-self c =
     let s = c.args.self.now.state in
     let f = facts s c.args.self.now.sound in
-    (sound_at _ _ c.set_criterion.ensures (facts_criterion s c.args.account c.args.right c.args.form c.args.value f), tt)
+    record { sound = sound_at _ _ c.set_criterion.ensures (facts_criterion s c.args.account c.args.right c.args.form c.args.value f) }

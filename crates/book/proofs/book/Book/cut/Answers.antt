@@ -10,9 +10,9 @@ refuse_cut-requires c = facts c.args.self.now.state c.args.self.now.sound
 pub cut-requires : goal.cut-requires
 cut-requires c = facts c.args.self.now.state c.args.self.now.sound
 
-pub invariant-of-self : goal.invariant-of-self
-invariant-of-self c =
+pub invariant_of-self : goal.invariant_of-self
+invariant_of-self c =
     let s = c.args.self.now.state in
     let f = facts s c.args.self.now.sound in
     let input = input_stage s c.args.pass (sym c.fits_input.ensures ∙ c.if-not-fits_input.false) in
-    (sound_at _ _ c.cut.ensures (facts_cut s f input), tt)
+    record { sound = sound_at _ _ c.cut.ensures (facts_cut s f input) }

@@ -12,8 +12,8 @@ deny-requires c =
     let d = deniable c.args.self.now.state c.args.account c.args.series c.args.quantity (sym c.in-None.ensures) in
     record { sound = facts c.args.self.now.state c.args.self.now.sound; known = d.known; listed = d.listed }
 
-pub invariant-of-self : goal.invariant-of-self
-invariant-of-self c =
+pub invariant_of-self : goal.invariant_of-self
+invariant_of-self c =
     let s = c.args.self.now.state in
     let f = facts s c.args.self.now.sound in
-    (sound_at _ _ c.deny.ensures (facts_denied s c.args.account c.args.series c.args.quantity f (deniable s c.args.account c.args.series c.args.quantity (sym c.in-None.ensures))), tt)
+    record { sound = sound_at _ _ c.deny.ensures (facts_denied s c.args.account c.args.series c.args.quantity f (deniable s c.args.account c.args.series c.args.quantity (sym c.in-None.ensures))) }

@@ -3,8 +3,8 @@ use Rattle.exercise.proofs.CriteriaLaws.{facts_fixed}
 use Rattle.book.proofs.PassLaws.{sound_at}
 use Rattle.book.proofs.book.Book.fixing_price.Goals as goal
 
-pub invariant-of-self : goal.invariant-of-self
-invariant-of-self c =
+pub invariant_of-self : goal.invariant_of-self
+invariant_of-self c =
     let s = c.args.self.now.state in
     let f = facts s c.args.self.now.sound in
-    (sound_at _ _ c.fix_price.ensures (facts_fixed s c.args.price f), tt)
+    record { sound = sound_at _ _ c.fix_price.ensures (facts_fixed s c.args.price f) }

@@ -12,8 +12,8 @@ lodge-requires c =
     let a = lodgeable c.args.self.now.state c.args.account c.args.shares (sym c.in-None.ensures) in
     record { sound = facts c.args.self.now.state c.args.self.now.sound; known = a.known; room = a.room }
 
-pub invariant-of-self : goal.invariant-of-self
-invariant-of-self c =
+pub invariant_of-self : goal.invariant_of-self
+invariant_of-self c =
     let s = c.args.self.now.state in
     let f = facts s c.args.self.now.sound in
-    (sound_at _ _ c.lodge.ensures (facts_lodged s c.args.account c.args.shares f (lodgeable s c.args.account c.args.shares (sym c.in-None.ensures))), tt)
+    record { sound = sound_at _ _ c.lodge.ensures (facts_lodged s c.args.account c.args.shares f (lodgeable s c.args.account c.args.shares (sym c.in-None.ensures))) }

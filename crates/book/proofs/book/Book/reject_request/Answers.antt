@@ -13,8 +13,8 @@ reject_request-requires c =
     let r = rejectable s c.args.request (sym c.in-None.ensures) in
     (r.from, request_placed s c.args.request (facts s c.args.self.now.sound) r)
 
-pub invariant-of-self : goal.invariant-of-self
-invariant-of-self c =
+pub invariant_of-self : goal.invariant_of-self
+invariant_of-self c =
     let s = c.args.self.now.state in
     let f = facts s c.args.self.now.sound in
-    (sound_at _ _ c.reject_request.ensures (facts_request_rejected s c.args.request f), tt)
+    record { sound = sound_at _ _ c.reject_request.ensures (facts_request_rejected s c.args.request f) }

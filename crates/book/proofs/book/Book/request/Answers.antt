@@ -7,8 +7,8 @@ use Rattle.book.proofs.book.Book.request.Goals as goal
 pub refuse_request-requires : goal.refuse_request-requires
 refuse_request-requires c = facts c.args.self.now.state c.args.self.now.sound
 
-pub invariant-of-self : goal.invariant-of-self
-invariant-of-self c =
+pub invariant_of-self : goal.invariant_of-self
+invariant_of-self c =
     let s = c.args.self.now.state in
     let f = facts s c.args.self.now.sound in
-    (sound_at _ _ c.add_request.ensures.after (facts_requested s c.args.account c.args.series c.args.quantity f (requestable s c.args.account c.args.series c.args.quantity (sym c.in-None.ensures))), tt)
+    record { sound = sound_at _ _ c.add_request.ensures.after (facts_requested s c.args.account c.args.series c.args.quantity f (requestable s c.args.account c.args.series c.args.quantity (sym c.in-None.ensures))) }

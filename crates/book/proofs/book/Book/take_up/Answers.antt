@@ -18,9 +18,9 @@ take_up-requires c =
       enough = λ on. (confirmable s c.args.leg c.args.answer c.args.account h on).there;
     }
 
-pub invariant-of-self : goal.invariant-of-self
-invariant-of-self c =
+pub invariant_of-self : goal.invariant_of-self
+invariant_of-self c =
     let s = c.args.self.now.state in
     let f = facts s c.args.self.now.sound in
     let input = input_stage s c.args.pass.now (sym c.fits_input.ensures ∙ c.if-not-fits_input.false) in
-    (sound_at _ _ c.take_up.ensures (facts_taken_up s c.args.leg c.args.answer c.args.account f input (sym c.in-None.ensures)), tt)
+    record { sound = sound_at _ _ c.take_up.ensures (facts_taken_up s c.args.leg c.args.answer c.args.account f input (sym c.in-None.ensures)) }

@@ -12,9 +12,9 @@ book_trade-requires c =
     let a = admitted c.args.self.now.state c.args.t.now (sym c.in-None.ensures) in
     record { sound = facts c.args.self.now.state c.args.self.now.sound; buyer = a.buyer; seller = a.seller; listed = a.listed; range = a.range; room = a.room }
 
-pub invariant-of-self : goal.invariant-of-self
-invariant-of-self c =
+pub invariant_of-self : goal.invariant_of-self
+invariant_of-self c =
     let s = c.args.self.now.state in
     let f = facts s c.args.self.now.sound in
     let input = input_stage s c.args.pass.now (sym c.fits_input.ensures ∙ c.if-not-fits_input.false) in
-    (sound_at _ _ c.book_trade.ensures.after (facts_traded s c.args.t.now f input (admitted s c.args.t.now (sym c.in-None.ensures))), tt)
+    record { sound = sound_at _ _ c.book_trade.ensures.after (facts_traded s c.args.t.now f input (admitted s c.args.t.now (sym c.in-None.ensures))) }

@@ -12,8 +12,8 @@ withdraw-requires c =
     let a = withdrawable c.args.self.now.state c.args.account c.args.shares (sym c.in-None.ensures) in
     record { sound = facts c.args.self.now.state c.args.self.now.sound; known = a.known; there = a.there }
 
-pub invariant-of-self : goal.invariant-of-self
-invariant-of-self c =
+pub invariant_of-self : goal.invariant_of-self
+invariant_of-self c =
     let s = c.args.self.now.state in
     let f = facts s c.args.self.now.sound in
-    (sound_at _ _ c.withdraw.ensures (facts_withdrawn s c.args.account c.args.shares f), tt)
+    record { sound = sound_at _ _ c.withdraw.ensures (facts_withdrawn s c.args.account c.args.shares f) }
