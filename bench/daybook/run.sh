@@ -2,8 +2,8 @@
 # Builds the proved program and the plain one, compares them on generated lines, and times both. Outside the gate.
 set -e
 cd "$(dirname "$0")/../.."
-rt check daybook
-proved=$PWD/target/bin/daybook
+(cd crates/daybook && rt run < /dev/null)
+proved=$PWD/crates/daybook/out/daybook
 work=$PWD/target/bench/daybook
 mkdir -p "$work"
 rustc --edition 2021 -O -o "$work/plain" bench/daybook/plain.rs

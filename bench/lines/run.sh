@@ -2,7 +2,7 @@
 # Builds the proved library and the benchmark, and runs it. Outside the gate.
 set -e
 cd "$(dirname "$0")/../.."
-rt staticlib lines_bench
+(cd crates/lines_bench && rt lib)
 mkdir -p target/bench
-rustc --edition 2021 -O -o target/bench/lines bench/lines/main.rs -L native=target/staticlib -l static=lines_bench
+rustc --edition 2021 -O -o target/bench/lines bench/lines/main.rs -L native=crates/lines_bench/out -l static=lines_bench
 target/bench/lines
