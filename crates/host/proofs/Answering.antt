@@ -4,7 +4,7 @@ use Rattle.std.proofs.lemmas.List.{take_all, take-take, length-take-le}
 use Rattle.std.proofs.lemmas.Bool.{cases_lt}
 use Rattle.draws.specs.declared.Reply.{Reply}
 use Rattle.parts.specs.declared.line.Line.{Line}
-use Rattle.lines.specs.Lines.{InputLine, FilledLine, IsInput, Begins, LongestStart, answer_text, before_feed, filled_line}
+use Rattle.lines.specs.Lines.{FilledLine, IsInput, Begins, LongestStart, answer_text, before_feed, filled_line}
 use Rattle.parts.specs.Parts.{kind_of, numbers_of}
 use Rattle.lines.specs.Reads.{ReadsInput}
 use Rattle.lines.proofs.Filling.{fills, fills_faulty}
@@ -13,7 +13,7 @@ use Rattle.register.specs.Register.{Brief}
 use Rattle.host.specs.Steps.{Shown, host_step}
 use Rattle.lines.specs.declared.text.Text.{Text}
 use Rattle.lines.specs.Texts.{cut, text_of}
-use Rattle.host.specs.Hosts.{statements_after, Fills, Faults, Answers, FillsText, FaultsText, AnswersText}
+use Rattle.host.specs.Hosts.{statements_after, Answers, FillsText, AnswersText}
 
 pub fills_of : (h : Shown) (l : Line) (w : List ℕ) (k : ℕ) (ns : List ℕ) (r : Reply) (text : List ℕ) (statements : ℕ) (after : Shown)
     → ReadsInput w l → k ≡ kind_of l → ns ≡ numbers_of l

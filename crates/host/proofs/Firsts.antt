@@ -1,6 +1,6 @@
 -- The first numbers of a list of 1,024 places.
 use Rattle.std.proofs.Common.{◌≡◌, ℕ, ◌+◌, ◌-◌, ◌<◌, ◌≤◌, min, false, ltb, List, [], ◌∷◌, ◌++◌, length, take, drop, set, sym, refl, ap, ◌∙◌, ⊎_elim, arith, length-append, length-drop, length-take}
-use Rattle.std.proofs.lemmas.List.{take_all, take-take, take-append-le, take_more_set, drop-take}
+use Rattle.std.proofs.lemmas.List.{take_all, take-append-le, take_more_set, drop-take}
 use Rattle.std.proofs.lemmas.Bool.{cases_lt}
 use Rattle.std.proofs.lemmas.Bool.Decides.{nat_tests}
 use Rattle.host.specs.Numbers.{first, last, number_reply, with_number}

@@ -1,5 +1,5 @@
 -- A call of the open book, as the host's step.
-use Rattle.std.proofs.Common.{◌≡◌, ℕ, List, Some, Result, sym, refl, ap, ◌∙◌, subst}
+use Rattle.std.proofs.Common.{◌≡◌, ℕ, List, Some, Result, ap, ◌∙◌}
 use Rattle.draws.specs.declared.Reply.{Reply}
 use Rattle.draws.specs.Meaning.{Meaning}
 use Rattle.settlement.specs.declared.line.Line.{Line}
@@ -9,7 +9,7 @@ use Rattle.ledger.specs.declared.state.State.{State}
 use Rattle.book.specs.declared.pass.Pass.{Pass}
 use Rattle.register.specs.Register.{After, replied}
 use Rattle.host.specs.Numbers.{last}
-use Rattle.host.specs.Steps.{Shown, Step, stepped}
+use Rattle.host.specs.Steps.{Step, stepped}
 
 abbrev after : Result ℕ Refusal → State → Pass → Meaning → List Line → After
 after r s p m ls = record { reply = r; state = s; pass = p; source = m; lines = ls }

@@ -2,7 +2,6 @@
 use Rattle.std.specs.Prelude.{◌≡◌, ℕ, cond, ◌&&◌, List, [], Some, None, Option, ◌==◌}
 use Rattle.draws.specs.declared.Reply.{Reply}
 use Rattle.ledger.specs.declared.state.State.{State}
-use Rattle.settlement.specs.declared.line.Line.{Line}
 use Rattle.book.specs.declared.book.Book.{Book}
 use Rattle.book.specs.declared.pass.Pass.{Pass}
 use Rattle.lines.specs.Lines.{InputLine, FilledLine, IsInput, LongestStart}
@@ -10,7 +9,7 @@ use Rattle.lines.specs.Texts.{WrittenAs}
 use Rattle.host.specs.declared.host.Answered.{Answered}
 use Rattle.host.specs.declared.host.Host.{Host}
 use Rattle.host.specs.Numbers.{unread_of}
-use Rattle.host.specs.Steps.{Shown, Step, host_step}
+use Rattle.host.specs.Steps.{Shown, host_step}
 
 -- a book is open where there is a pass
 abbrev pub shown_desk : Option Pass → Book → Option (State × Pass)

@@ -14,7 +14,7 @@ use Rattle.positions.proofs.CellLaws.{bought, sold, unbought, unsold}
 use Rattle.ledger.specs.declared.state.Legs.{Legs}
 use Rattle.ledger.specs.declared.state.Series.{Series}
 use Rattle.ledger.specs.declared.state.State.{State}
-use Rattle.ledger.specs.Tables.{past_series, row}
+use Rattle.ledger.specs.Tables.{past_series}
 use Rattle.register.specs.Balance.{Listed, Count, none_listed, signed, added, moved}
 
 -- ── one cell ──

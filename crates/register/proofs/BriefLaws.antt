@@ -1,5 +1,5 @@
 -- Every reply and every result has at most 8 digits.
-use Rattle.std.proofs.Common.{◌≡◌, ℕ, zero, suc, ◌+◌, ◌-◌, ◌*◌, ◌<◌, ◌≤◌, Bool, true, false, ◌&&◌, ltb, leb, List, [], ◌∷◌, length, get_or, Some, None, sum_by, Option, refl, subst, div-le_self, arith, lit<}
+use Rattle.std.proofs.Common.{◌≡◌, ℕ, suc, ◌+◌, ◌-◌, ◌*◌, ◌<◌, ◌≤◌, Bool, true, false, ◌&&◌, ltb, leb, List, [], ◌∷◌, length, get_or, Some, None, sum_by, Option, refl, div-le_self, arith, lit<}
 use Rattle.std.proofs.lemmas.List.Sums.{sum_by-cons}
 use Rattle.std.proofs.lemmas.Bool.{and_parts, ltb-true, lt-ltb}
 use Rattle.draws.specs.Checks.{unless, first_refusal}
@@ -35,7 +35,6 @@ use Rattle.book.specs.declared.pass.Pass.{Pass}
 use Rattle.book.specs.declared.pass.Pass.TheVariants.{ForInput, ForCut, ForAssigned}
 use Rattle.book.specs.Calls.{fits_input, refused, outcome}
 use Rattle.book.specs.Stages.{fits_cut, fits_assigned, replied_with, cut_refusal, assignment_refusal, statement_refusal, next_day_refusal}
-use Rattle.register.specs.declared.calls.Opening.{Opening}
 use Rattle.register.specs.declared.calls.InputCall.{InputCall}
 use Rattle.register.specs.declared.calls.InputCall.TheVariants.{AddAccount, ListSeries, BookTrade, TransferTrade, GiveUpLeg, TakeUpLeg, TransferPosition}
 use Rattle.register.specs.declared.calls.ExerciseCall.{ExerciseCall}

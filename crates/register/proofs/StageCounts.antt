@@ -11,7 +11,7 @@ use Rattle.settlement.specs.Laws.{CellSettled}
 use Rattle.ledger.specs.declared.state.Series.{Series}
 use Rattle.ledger.specs.declared.state.Stage.TheVariants.{Cut}
 use Rattle.ledger.specs.declared.state.State.{State}
-use Rattle.ledger.specs.Tables.{row, cells_of}
+use Rattle.ledger.specs.Tables.{cells_of}
 use Rattle.ledger.specs.Lookups.{expiring}
 use Rattle.exercise.specs.Requests.{denial_noted}
 use Rattle.exercise.specs.Criteria.{criterion_set}

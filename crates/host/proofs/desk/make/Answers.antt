@@ -1,5 +1,4 @@
 use Rattle.std.proofs.Common.{◌≡◌, length, sym, ap, ◌∙◌, subst}
-use Rattle.draws.specs.Meaning.{Meaning}
 use Rattle.draws.specs.Sources.{tape}
 use Rattle.draws.specs.declared.Reply.{Reply}
 use Rattle.register.specs.Register.{answer, Brief}

@@ -1,4 +1,4 @@
-use Rattle.std.proofs.Common.{◌≡◌, length, take, sym, arith, rules}
+use Rattle.std.proofs.Common.{take, sym, arith, rules}
 use Rattle.std.proofs.lemmas.List.{take-take, length-take-le, take_all}
 use Rattle.host.proofs.unread.front.Goals as goal
 

@@ -1,4 +1,4 @@
-use Rattle.std.proofs.Common.{ap, ◌∙◌, arith}
+use Rattle.std.proofs.Common.{ap, ◌∙◌}
 use Rattle.host.specs.Numbers.{first}
 use Rattle.host.proofs.Firsts.{moved, stayed}
 use Rattle.host.proofs.unread.shift.Goals as goal

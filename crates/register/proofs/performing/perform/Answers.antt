@@ -1,4 +1,4 @@
-use Rattle.std.proofs.Common.{length, sym, refl, ap, ◌∙◌, subst}
+use Rattle.std.proofs.Common.{length, sym, ap, ◌∙◌, subst}
 use Rattle.ledger.specs.declared.state.State.{State}
 use Rattle.register.specs.Register.{After, answer, replied, Brief}
 use Rattle.ledger.proofs.FactLaws.{facts}
