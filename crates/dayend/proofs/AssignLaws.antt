@@ -1,13 +1,12 @@
 -- The assignment of all series.
-use Rattle.std.proofs.Common.{◌≡◌, ℕ, zero, suc, ◌+◌, ◌-◌, ◌<◌, ◌≤◌, Bool, List, [], ◌∷◌, ◌++◌, length, get_or, take, drop, set, sum_by, sym, refl, ap, ◌∙◌, subst, append_assoc, append-nil, add-one, arith, length-set}
+use Rattle.std.proofs.Common.{◌≡◌, ℕ, zero, suc, ◌+◌, ◌<◌, ◌≤◌, Bool, List, [], ◌∷◌, ◌++◌, length, get_or, take, drop, set, sum_by, sym, refl, ap, ◌∙◌, subst, append_assoc, append-nil, add-one, arith, length-set}
 use Rattle.std.proofs.lemmas.List.{take_more_set, drop_more, take_all, drop_all}
 use Rattle.std.proofs.lemmas.List.Sums.{sum_by-cons}
 use Rattle.draws.specs.Meaning.{Meaning, Below}
 use Rattle.positions.specs.declared.cell.Cell.{Cell}
 use Rattle.positions.specs.Cells.{no_cell}
-use Rattle.positions.specs.Rows.{total_longs, total_shorts}
 use Rattle.settlement.specs.Assignment.{total_due, draws_for, Assignable, SeriesOutcome, series_outcome}
-use Rattle.settlement.specs.Laws.{CellSettled, SeriesSettled}
+use Rattle.settlement.specs.Laws.{SeriesSettled}
 use Rattle.settlement.proofs.Allocated.{due_held}
 use Rattle.settlement.proofs.AssignmentLaws.{series_settled}
 use Rattle.ledger.specs.declared.state.Series.{Series}
@@ -15,7 +14,7 @@ use Rattle.ledger.specs.declared.state.State.{State}
 use Rattle.ledger.specs.declared.state.Stage.TheVariants.{Cut}
 use Rattle.ledger.specs.declared.state.Terms.{Terms}
 use Rattle.ledger.specs.Tables.{past_series, cells_of}
-use Rattle.dayend.specs.Assignment.{needed, expires, RowReady, RowsReady, Assigning, assigned_rows}
+use Rattle.dayend.specs.Assignment.{needed, expires, RowReady, RowsReady, assigned_rows}
 use Rattle.ledger.specs.Sound.{Facts, Waiting}
 
 -- ── a book that has been cut is ready ──

@@ -1,15 +1,14 @@
 -- A book after its assignment.
-use Rattle.std.proofs.Common.{◌≡◌, ℕ, zero, suc, ◌+◌, ◌-◌, ◌<◌, ◌≤◌, Bool, true, false, List, [], ◌∷◌, length, get_or, sum_by, sym, refl, ap, ◌∙◌, subst, inl, inr, ⊎_elim, arith}
-use Rattle.std.proofs.lemmas.List.{get_or_past, get_or-map, length-map}
+use Rattle.std.proofs.Common.{◌≡◌, ℕ, zero, suc, ◌+◌, ◌<◌, ◌≤◌, List, [], ◌∷◌, length, get_or, sum_by, sym, refl, ap, ◌∙◌, subst, ⊎_elim, arith}
+use Rattle.std.proofs.lemmas.List.{get_or_past, get_or-map}
 use Rattle.std.proofs.lemmas.List.FromFn.{length-map-range_with_len, get_or-map-range_with_len}
 use Rattle.std.proofs.lemmas.List.Sums.{sum_by-cons}
 use Rattle.std.proofs.lemmas.Bool.{cases_lt}
 use Rattle.draws.specs.Meaning.{Meaning, Below}
-use Rattle.positions.specs.declared.cell.Cell.{Cell}
 use Rattle.positions.specs.Cells.{no_cell}
 use Rattle.positions.specs.Rows.{total_longs}
 use Rattle.settlement.specs.Assignment.{draws_for, SeriesOutcome, series_outcome}
-use Rattle.settlement.specs.Laws.{CellSettled, SeriesSettled}
+use Rattle.settlement.specs.Laws.{SeriesSettled}
 use Rattle.ledger.specs.declared.state.Account.{Account}
 use Rattle.ledger.specs.declared.state.Series.{Series}
 use Rattle.ledger.specs.declared.state.State.{State}
@@ -17,7 +16,7 @@ use Rattle.ledger.specs.declared.state.Stage.TheVariants.{Cut, Assigned}
 use Rattle.ledger.specs.declared.state.Terms.{Terms}
 use Rattle.ledger.specs.Tables.{past_series, no_account, row, cells_of}
 use Rattle.exercise.specs.Criteria.{with_collateral}
-use Rattle.dayend.specs.Assignment.{needed, expires, RowsReady, assigned_rows, lodged_shares, with_shares, assigning, assigned_state}
+use Rattle.dayend.specs.Assignment.{needed, expires, RowsReady, assigned_rows, lodged_shares, assigning, assigned_state}
 use Rattle.ledger.specs.Sound.{Facts, Balanced, Waiting}
 use Rattle.dayend.proofs.AssignLaws.{settled_here, ready_then, rows_ready}
 

@@ -1,4 +1,4 @@
-use Rattle.std.proofs.Common.{◌≡◌, arith}
+use Rattle.std.proofs.Common.{arith}
 use Rattle.dayend.proofs.AssignLaws.{going_none, going_all, going_next, next_assignable}
 use Rattle.dayend.proofs.assignment.assign_rows.Goals as goal
 

@@ -1,7 +1,6 @@
-use Rattle.std.proofs.Common.{◌≡◌, get_or, refl, ap, ◌∙◌, arith}
+use Rattle.std.proofs.Common.{get_or, ap, ◌∙◌, arith}
 use Rattle.settlement.proofs.Filling.{filled_none, filled_more, filled_all}
 use Rattle.ledger.specs.declared.state.Account.{Account}
-use Rattle.ledger.specs.Tables.{no_account}
 use Rattle.exercise.specs.Criteria.{with_collateral}
 use Rattle.dayend.proofs.assignment.put_collateral.Goals as goal
 
