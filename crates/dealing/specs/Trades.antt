@@ -13,15 +13,10 @@ use Rattle.ledger.specs.declared.state.State.{State}
 use Rattle.ledger.specs.declared.state.Trade.{Trade}
 use Rattle.ledger.specs.Tables.{cells_of, with_cells, with_legs, one_leg_more}
 use Rattle.ledger.specs.Lookups.{within, has_account, has_series, expired}
+use Rattle.dealing.specs.declared.trades.Fill.{Fill}
 
 abbrev pub trade_in_range : Trade → Bool
 trade_in_range t = within t.buyer_effect 1 2 && (within t.seller_effect 1 2 && (within t.quantity 1 100_000 && within t.price 1 1_000_000))
-
--- what a trade does to its series: the cells after it, and the closed part of each leg
-pub record Fill : Type 0 where
-  pub cells : List Cell
-  pub bought : ℕ
-  pub sold : ℕ
 
 -- the cells when the buyer's leg is booked
 abbrev pub bought_in : List Cell → Trade → List Cell

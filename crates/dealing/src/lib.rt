@@ -8,4 +8,4 @@ pub use listings::{
     add_account, add_series, contract_of, is_same, lists, refuse_account, refuse_open,
     refuse_series,
 };
-pub use trades::{book_trade, refuse_trade};
+pub use trades::{Fill, book_trade, refuse_trade};

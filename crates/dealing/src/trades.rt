@@ -8,6 +8,14 @@ ghost use Rattle.ledger.specs.Sound.{Facts};
 use ledger::{Refusal, State, Trade, is_within};
 use positions::{Cell, Effect, Leg, LegState, Side, place, total_longs};
 
+// What a trade does to its series: the cells after it, and the closed part of each leg.
+#[derive(Clone, Copy)]
+pub struct Fill {
+    pub cells: [Cell; 32],
+    pub bought: u32,
+    pub sold: u32,
+}
+
 fn in_range(t: &Trade) -> bool
     ensures { result ≡ trade_in_range t.now }
 {
@@ -73,7 +81,25 @@ fn place_legs(cells: &mut [Cell; 32], t: &Trade) -> (u32, u32)
     (bought, sold)
 }
 
-// The series' longs with both legs booked, in a copy of its cells.
+// Books both legs in a copy of the series' cells.
+fn fill_of(book: &State, t: &Trade) -> Fill
+    requires sound { Facts book.now }
+    requires buyer { has_account book.now t.now.buyer ≡ true }
+    requires seller { has_account book.now t.now.seller ≡ true }
+    requires listed { has_series book.now t.now.series ≡ true }
+    requires range { trade_in_range t.now ≡ true }
+    ensures { result ≡ fill_of book.now t.now }
+{
+    let mut cells = book.cells(t.series as usize - 1);
+    let (bought, sold) = place_legs(&mut cells, t);
+    Fill {
+        cells,
+        bought,
+        sold,
+    }
+}
+
+// The series' longs with both legs booked.
 fn longs_after(book: &State, t: &Trade) -> u64
     requires sound { Facts book.now }
     requires buyer { has_account book.now t.now.buyer ≡ true }
@@ -82,9 +108,7 @@ fn longs_after(book: &State, t: &Trade) -> u64
     requires range { trade_in_range t.now ≡ true }
     ensures { result ≡ total_longs (fill_of book.now t.now).cells }
 {
-    let mut cells = book.cells(t.series as usize - 1);
-    place_legs(&mut cells, t);
-    total_longs(&cells)
+    total_longs(&fill_of(book, t).cells)
 }
 
 // Why a trade is turned back, if it is: the first check that fails.

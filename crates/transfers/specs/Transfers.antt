@@ -13,13 +13,9 @@ use Rattle.ledger.specs.declared.state.PositionTransfer.{PositionTransfer}
 use Rattle.ledger.specs.declared.state.State.{State}
 use Rattle.ledger.specs.Tables.{cells_of, cell_at, leg_of, with_cells, with_legs, leg_rebooked, leg_stepped}
 use Rattle.ledger.specs.Lookups.{within, has_account, has_series, has_leg, expired, participant_of, another_of_same, is_free, held_for}
+use Rattle.transfers.specs.declared.moves.Rebooking.{Rebooking}
 
 -- ── a leg leaves its account for another ──
-
--- what a leg's transfer does to its series: the cells after it, and the leg's closed part in its new account
-pub record Rebooking : Type 0 where
-  pub cells : List Cell
-  pub closed : ℕ
 
 -- the cells that the leg leaves
 abbrev pub without_in : List Cell → Leg → List Cell

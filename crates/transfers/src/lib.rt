@@ -4,6 +4,6 @@
 mod moves;
 
 pub use moves::{
-    give_up, move_position, refuse_give_up, refuse_position, refuse_take_up, refuse_transfer,
-    take_up, transfer,
+    Rebooking, give_up, move_position, refuse_give_up, refuse_position, refuse_take_up,
+    refuse_transfer, take_up, transfer,
 };

@@ -6,11 +6,18 @@ ghost use Rattle.positions.specs.Legs.{open_part};
 ghost use Rattle.positions.specs.Rows.{Below};
 ghost use Rattle.ledger.specs.Tables.{cell_at, leg_of, with_cells};
 ghost use Rattle.ledger.specs.Lookups.{has_account, has_series, has_leg};
-ghost use Rattle.transfers.specs.Transfers.{rebooking_in, still_there, room_for, transferred, transfer_checks, give_up_checks, given_up, confirms, take_up_checks, confirmed, rejected, taken_up, position_checks, position_moved};
+ghost use Rattle.transfers.specs.Transfers.{rebooking_in, rebooking_of, still_there, room_for, transferred, transfer_checks, give_up_checks, given_up, confirms, take_up_checks, confirmed, rejected, taken_up, position_checks, position_moved};
 ghost use Rattle.ledger.specs.Sound.{Facts, ValidLeg};
 
 use ledger::{PositionTransfer, Refusal, State, is_free, is_held_for, is_within};
 use positions::{Cell, Leg, LegEvent, Side, place, total_longs};
+
+// What a leg's transfer does to its series: the cells after it, and the leg's closed part in its new account.
+#[derive(Clone, Copy)]
+pub struct Rebooking {
+    pub cells: [Cell; 32],
+    pub closed: u32,
+}
 
 // Whether the leg's account still holds the leg's open part on its side.
 fn still_there(book: &State, leg: &Leg) -> bool
@@ -43,7 +50,20 @@ fn rebook(cells: &mut [Cell; 32], leg: &Leg, account: u32) -> u32
     )
 }
 
-// Whether the series' longs stay within their limit when the leg is booked anew, in a copy of its cells.
+// Takes the leg from its account's cell and books it anew in the other's, in a copy of the series' cells.
+fn rebooking_of(book: &State, leg: &Leg, account: u32) -> Rebooking
+    requires sound { Facts book.now }
+    requires known { has_account book.now account ≡ true }
+    requires valid { ValidLeg book.now leg.now }
+    requires enough { open_part leg.now ≤ on_side leg.now.side (cell_at book.now leg.now.account leg.now.series) }
+    ensures { result ≡ rebooking_of book.now leg.now account }
+{
+    let mut cells = book.cells(leg.series as usize - 1);
+    let closed = rebook(&mut cells, leg, account);
+    Rebooking { cells, closed }
+}
+
+// Whether the series' longs stay within their limit when the leg is booked anew.
 fn room_for(book: &State, leg: &Leg, account: u32) -> bool
     requires sound { Facts book.now }
     requires known { has_account book.now account ≡ true }
@@ -51,9 +71,7 @@ fn room_for(book: &State, leg: &Leg, account: u32) -> bool
     requires enough { still_there book.now leg.now ≡ true }
     ensures { result ≡ room_for book.now leg.now account }
 {
-    let mut cells = book.cells(leg.series as usize - 1);
-    rebook(&mut cells, leg, account);
-    total_longs(&cells) <= 100_000
+    total_longs(&rebooking_of(book, leg, account).cells) <= 100_000
 }
 
 // Why a trade transfer is turned back, if it is.

@@ -3,10 +3,10 @@ use Rattle.positions.specs.declared.cell.Cell.{Cell}
 use Rattle.positions.specs.Rows.{Below}
 use Rattle.ledger.proofs.FactLaws.{account_placed, series_placed, series_below}
 use Rattle.dealing.proofs.TradeLaws.{quantity_small}
-use Rattle.dealing.proofs.trades.longs_after.Goals as goal
+use Rattle.dealing.proofs.trades.fill_of.Goals as goal
 
-pub place_legs-requires : goal.place_legs-requires
-place_legs-requires c =
+pub place_legs-bought-requires : goal.place_legs-bought-requires
+place_legs-bought-requires c =
     let s = c.args.book.now in
     let t = c.args.t.now in
     let x = account_placed s t.buyer c.requires.sound c.requires.buyer in
