@@ -19,23 +19,27 @@ abbrev pub trade_in_range : Trade → Bool
 trade_in_range t = within t.buyer_effect 1 2 && (within t.seller_effect 1 2 && (within t.quantity 1 100_000 && within t.price 1 1_000_000))
 
 -- the cells when the buyer's leg is booked
+abbrev pub bought_cells : State → Trade → List Cell
+bought_cells s t = placed (cells_of s (t.series - 1)) (t.buyer - 1) Buy (effect_of_code t.buyer_effect) t.quantity
+
+-- the buyer's leg is booked, then the seller's
+abbrev pub fill_of : State → Trade → Fill
+fill_of s t = record {
+  cells = placed (bought_cells s t) (t.seller - 1) Sell (effect_of_code t.seller_effect) t.quantity;
+  bought = closing (slice_index_or (cells_of s (t.series - 1)) (t.buyer - 1) no_cell) Buy (effect_of_code t.buyer_effect) t.quantity;
+  sold = closing (slice_index_or (bought_cells s t) (t.seller - 1) no_cell) Sell (effect_of_code t.seller_effect) t.quantity;
+}
+
+-- the same of cells that stand alone
 abbrev pub bought_in : List Cell → Trade → List Cell
 bought_in cells t = placed cells (t.buyer - 1) Buy (effect_of_code t.buyer_effect) t.quantity
 
--- the buyer's leg is booked, then the seller's
 abbrev pub fill_in : List Cell → Trade → Fill
 fill_in cells t = record {
   cells = placed (bought_in cells t) (t.seller - 1) Sell (effect_of_code t.seller_effect) t.quantity;
   bought = closing (slice_index_or cells (t.buyer - 1) no_cell) Buy (effect_of_code t.buyer_effect) t.quantity;
   sold = closing (slice_index_or (bought_in cells t) (t.seller - 1) no_cell) Sell (effect_of_code t.seller_effect) t.quantity;
 }
-
--- the same of the book's cells
-abbrev pub bought_cells : State → Trade → List Cell
-bought_cells s t = bought_in (cells_of s (t.series - 1)) t
-
-abbrev pub fill_of : State → Trade → Fill
-fill_of s t = fill_in (cells_of s (t.series - 1)) t
 
 abbrev pub trade_checks : State → Trade → List (Bool × Refusal)
 trade_checks s t =

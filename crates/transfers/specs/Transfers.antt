@@ -18,22 +18,25 @@ use Rattle.transfers.specs.declared.moves.Rebooking.{Rebooking}
 -- ── a leg leaves its account for another ──
 
 -- the cells that the leg leaves
+abbrev pub cells_without : State → Leg → List Cell
+cells_without s l = slice_set (cells_of s (l.series - 1)) (l.account - 1) (left_by l (cell_at s l.account l.series))
+
+-- the leg leaves its cell, and is booked anew in the other account under its effect
+abbrev pub rebooking_of : State → Leg → ℕ → Rebooking
+rebooking_of s l account = record {
+  cells = placed (cells_without s l) (account - 1) l.side l.effect l.quantity;
+  closed = closing (slice_index_or (cells_without s l) (account - 1) no_cell) l.side l.effect l.quantity;
+}
+
+-- the same of cells that stand alone
 abbrev pub without_in : List Cell → Leg → List Cell
 without_in cells l = slice_set cells (l.account - 1) (left_by l (slice_index_or cells (l.account - 1) no_cell))
 
--- the leg leaves its cell, and is booked anew in the other account under its effect
 abbrev pub rebooking_in : List Cell → Leg → ℕ → Rebooking
 rebooking_in cells l account = record {
   cells = placed (without_in cells l) (account - 1) l.side l.effect l.quantity;
   closed = closing (slice_index_or (without_in cells l) (account - 1) no_cell) l.side l.effect l.quantity;
 }
-
--- the same of the book's cells
-abbrev pub cells_without : State → Leg → List Cell
-cells_without s l = without_in (cells_of s (l.series - 1)) l
-
-abbrev pub rebooking_of : State → Leg → ℕ → Rebooking
-rebooking_of s l account = rebooking_in (cells_of s (l.series - 1)) l account
 
 -- its account's side still holds the leg's open part
 abbrev pub still_there : State → Leg → Bool
