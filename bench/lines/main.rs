@@ -105,10 +105,11 @@ impl Text {
     }
 }
 
-// As in the library: the line's bytes up to its line feed, and the answer.
-fn filled(line: &[u8], result: u32) -> Text {
+// As in the library: the line's bytes up to its line feed, and the answer, which has at most eight digits.
+fn filled(line: &[u8], result: u32) -> Option<Text> {
     let mut text = Text::new();
     match read(line) {
+        Ok(_) if result > 99_999_999 => return None,
         Ok(read) => {
             // So that the kind and the fields are read, though the text needs none of them.
             black_box((read.kind, read.count, &read.fields));
@@ -120,7 +121,7 @@ fn filled(line: &[u8], result: u32) -> Text {
             text.push_answer(2, start as u32);
         }
     }
-    text
+    Some(text)
 }
 
 fn checksum(bytes: &[u8]) -> u64 {
@@ -130,8 +131,9 @@ fn checksum(bytes: &[u8]) -> u64 {
 fn plain(buffer: &[u8], result: u32) -> u64 {
     let mut sum: u64 = 0;
     for line in buffer.split_inclusive(|b| *b == b'\n') {
-        let text = filled(line, result);
-        sum = sum.wrapping_mul(31).wrapping_add(checksum(&text.bytes[..text.len]));
+        if let Some(text) = filled(line, result) {
+            sum = sum.wrapping_mul(31).wrapping_add(checksum(&text.bytes[..text.len]));
+        }
     }
     sum
 }

@@ -14,11 +14,20 @@ fn checksum(bytes: &[u8]) -> u64 {
     sum
 }
 
-// Makes the text the filled line of an input line, with result `result`.
-fn answer(text: &mut Text, line: &[u8], res: u32) {
+// The largest number of an archive line.
+const LARGEST: u32 = 99_999_999;
+
+// Makes the text the filled line of an input line, with result `res`, if there is such a line.
+fn is_answered(text: &mut Text, line: &[u8], res: u32) -> bool {
     match read_input(line) {
-        Ok(_read) => fill(text, line, 0, res),
-        Err(fault) => fill_faulty(text, fault.start),
+        Ok(_read) => {
+            fill(text, line, 0, res);
+            res <= LARGEST
+        }
+        Err(fault) => {
+            fill_faulty(text, fault.start);
+            true
+        }
     }
 }
 
@@ -30,8 +39,9 @@ pub extern "C" fn lines_bench(buffer: &[u8], res: u32) -> u64 {
     let mut start = 0;
     for i in 0..buffer.len() {
         if buffer[i] == b'\n' {
-            answer(&mut text, &buffer[start..i + 1], res);
-            sum = sum.wrapping_mul(31).wrapping_add(checksum(text.as_bytes()));
+            if is_answered(&mut text, &buffer[start..i + 1], res) {
+                sum = sum.wrapping_mul(31).wrapping_add(checksum(text.as_bytes()));
+            }
             start = i + 1;
         }
     }
