@@ -1,11 +1,13 @@
 // The state of a day book, its tables, and what a call looks up in them.
 #![tactic(auto)]
 
+mod ledger;
 mod lookups;
 mod refusal;
 mod state;
 mod tables;
 
+pub use ledger::Ledger;
 pub use lookups::{is_free, is_held_for, is_within};
 pub use refusal::Refusal;
 pub use state::{
