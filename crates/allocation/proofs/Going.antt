@@ -1,12 +1,12 @@
 -- How far the draws have come, by what is left to do.
-use Rattle.std.proofs.Common.{◌≡◌, ℕ, suc, ◌+◌, ◌-◌, ◌<◌, ◌≤◌, min, List, [], length, get_or, sum, sym, refl, ap, ◌∙◌, ⊎_elim, arith}
-use Rattle.std.proofs.lemmas.List.{ext_get_or}
+use Rattle.std.proofs.Common.{◌≡◌, ℕ, suc, ◌+◌, ◌-◌, ◌<◌, ◌≤◌, min, List, [], length, get_or, replicate, sum, sym, refl, ap, ◌∙◌, ⊎_elim, arith}
+use Rattle.std.proofs.lemmas.List.{ext_get_or, get_or-replicate, length-replicate}
 use Rattle.std.proofs.lemmas.List.FromFn.{fill_by_all}
 use Rattle.std.proofs.lemmas.Bool.{cases_lt}
 use Rattle.draws.specs.Meaning.{Meaning, behind, behind_all}
-use Rattle.allocation.specs.Stretch.{share, less}
+use Rattle.allocation.specs.Stretch.{share, less, unassigned}
 use Rattle.allocation.specs.Assigned.{draws_needed, bounds, assigned_to, assigned_by}
-use Rattle.allocation.proofs.Places.{unassigned, length_less, getd_less, length_unassigned}
+use Rattle.allocation.proofs.Places.{length_less, getd_less, length_unassigned}
 use Rattle.allocation.proofs.Totals.{share_sum, share_le, sum_less}
 use Rattle.allocation.proofs.Needed.{needed_none, needed_more}
 
@@ -23,27 +23,31 @@ pub record Going (first m : Meaning) (shorts : List ℕ) (exercised block : ℕ)
   pub drawn : behind_all (bounds (draws_needed left block) remaining block) m ≡ behind_all (bounds (draws_needed exercised block) (sum shorts) block) first
 
 module _ (first : Meaning) (shorts : List ℕ) (exercised block : ℕ) (positive : 0 < block) where
-  all_open : (assigned : List ℕ) → length assigned ≡ length shorts → ((i : ℕ) → i < length assigned → get_or assigned i 0 ≡ 0) → unassigned shorts assigned ≡ shorts
-  all_open assigned size none =
-      ext_get_or 0 _ _ (length_unassigned shorts assigned) (λ i h.
-      let l : i < length shorts = omega (arith, length_unassigned shorts assigned) in
-      omega (arith, getd_less shorts (λ i. get_or assigned i 0) i l, none i (omega arith)))
+  abbrev zeros : List ℕ
+  zeros = replicate (length shorts) 0
 
-  pub going_none : (assigned : List ℕ) → length assigned ≡ length shorts → ((i : ℕ) → i < length assigned → get_or assigned i 0 ≡ 0) → sum shorts ≤ 100_000 → exercised ≤ sum shorts → draws_needed exercised block ≤ first.supply → Going first first shorts exercised block assigned (sum shorts) exercised 0
-  going_none assigned size none few enough supplied =
-      let o = all_open assigned size none in
-      record {
-        size = size;
-        covered = λ i h. omega (arith, none i (omega arith));
-        remains = ap sum (sym o);
-        enough = enough;
-        few = few;
-        supplied = supplied;
-        count = omega arith;
-        slow = omega arith;
-        rest = λ i h. rw o (omega (arith, none i (omega arith)));
-        drawn = refl;
-      }
+  zero : (i : ℕ) → i < length shorts → get_or zeros i 0 ≡ 0
+  zero i h = get_or-replicate (length shorts) i _ _ h
+
+  all_open : unassigned shorts zeros ≡ shorts
+  all_open =
+      ext_get_or 0 _ _ (length_unassigned shorts zeros) (λ i h.
+      let l : i < length shorts = omega (arith, length_unassigned shorts zeros) in
+      omega (arith, getd_less shorts (λ i. get_or zeros i 0) i l, zero i l))
+
+  pub going_none : sum shorts ≤ 100_000 → exercised ≤ sum shorts → draws_needed exercised block ≤ first.supply → Going first first shorts exercised block zeros (sum shorts) exercised 0
+  going_none few enough supplied = record {
+    size = length-replicate (length shorts) 0;
+    covered = λ i h. omega (arith, zero i h);
+    remains = ap sum (sym all_open);
+    enough = enough;
+    few = few;
+    supplied = supplied;
+    count = omega arith;
+    slow = omega arith;
+    rest = λ i h. rw all_open (omega (arith, zero i h));
+    drawn = refl;
+  }
 
   pub going_all : (m : Meaning) (assigned : List ℕ) (remaining used : ℕ) → Going first m shorts exercised block assigned remaining 0 used → (used ≡ draws_needed exercised block) × (assigned ≡ assigned_by first block exercised shorts) × (m ≡ behind_all (bounds (draws_needed exercised block) (sum shorts) block) first)
   going_all m assigned remaining used w =
