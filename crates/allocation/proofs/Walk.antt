@@ -5,7 +5,7 @@ use Rattle.std.proofs.lemmas.Bool.{cases_order, cases_eq}
 use Rattle.allocation.specs.Stretch.{ahead, unassigned, HasStretch}
 use Rattle.allocation.proofs.Parts.{part, Stands, part_le, skips, gives, needs_less, takes, apart}
 use Rattle.allocation.proofs.Shares.{share_up_to}
-use Rattle.allocation.proofs.Places.{length_unassigned, ahead_more, ahead_le, ahead_before, length_less, getd_less}
+use Rattle.allocation.proofs.Places.{ahead_more, ahead_le, ahead_before, length_less, getd_less}
 
 -- skip contracts are still to be passed and need still to be taken, and the accounts have got what the window gives up to P
 pub record Walked (shorts old : List ℕ) (start count P : ℕ) (assigned : List ℕ) (skip need : ℕ) : Type 0 where

@@ -3,10 +3,9 @@
 
 ghost use Rattle.std.specs.Prelude.{◌≡◌, ◌<◌, ◌≤◌, [], length, sum};
 ghost use Rattle.draws.specs.Meaning.{behind, behind_all};
-ghost use Rattle.draws.specs.Checks.{checked};
 ghost use Rattle.allocation.specs.Stretch.{HasStretch, TakesStretch};
 ghost use Rattle.allocation.specs.Assigned.{draws_needed, bounds, assigned_by};
-ghost use Rattle.allocation.specs.Allocation.{checks, allocation};
+ghost use Rattle.allocation.specs.Allocation.{allocation};
 ghost use Rattle.allocation.specs.Laws.{AlwaysSettled, RestsOnAnswers, Worked, NothingExercised};
 
 use draws::Draws;
@@ -53,17 +52,18 @@ pub fn draws_for(exercised: u32, block: u32) -> u32
     exercised.div_ceil(block)
 }
 
-// Whether an allocation can be made, and if not, the first check that fails.
+// What an allocation answers: the draws that it takes, or the first check that fails.
+// Kept: these are the parameters of `allocate`; a struct of them for two private functions makes each clause longer.
 fn check<S: Draws>(
     source: &S,
     shorts: &[u32],
     exercised: u32,
     block: u32,
-    places: usize,
-) -> Result<(), Unassigned>
-    ensures { result ≡ checked (checks (S.meaning source.now) shorts.now exercised block places) }
+    assigned: &[u32],
+) -> Result<u32, Unassigned>
+    ensures { result ≡ (allocation (S.meaning source.now) shorts.now exercised block assigned.now).reply }
 {
-    if places != shorts.len() {
+    if assigned.len() != shorts.len() {
         return Err(Unassigned::PlacesDiffer);
     }
     if shorts.len() > ACCOUNTS {
@@ -83,7 +83,7 @@ fn check<S: Draws>(
     if source.supply() < u64::from(draws) {
         return Err(Unassigned::DrawsShort(draws));
     }
-    Ok(())
+    Ok(draws)
 }
 
 // The starting contract, by a draw that cannot be refused.
@@ -98,13 +98,14 @@ fn draw_start<S: Draws>(source: &mut S, remaining: u32) -> u32
 
 // Assigns the stretch of so many open contracts from the starting contract on: down the list of accounts, and on from
 // its top.
+#[tactic(auto, using(crate::proofs::Rounds::walk_ends))]
 fn take_stretch(shorts: &[u32], start: u32, count: u32, assigned: &mut [u32])
     requires { HasStretch shorts.now assigned.old start count }
     ensures { TakesStretch shorts.now assigned.old assigned.new start count }
 {
     let mut skip = start;
     let mut need = count;
-    for _ in 0..2_u8 {
+    for _ in 0..2u8 {
         for (i, short) in shorts.iter().enumerate() {
             let open_contracts = short - assigned[i];
             let passed = skip.min(open_contracts);
@@ -119,37 +120,33 @@ fn take_stretch(shorts: &[u32], start: u32, count: u32, assigned: &mut [u32])
     }
 }
 
-// Assigns the exercised contracts block by block, and answers how many draws that took.
+// Assigns the exercised contracts block by block.
 fn assign<S: Draws>(
     source: &mut S,
     shorts: &[u32],
     exercised: u32,
     block: u32,
     assigned: &mut [u32],
-) -> u32
+)
     requires places { length assigned.old ≡ length shorts.now }
     requires accounts { length shorts.now ≤ 64 }
     requires few { sum shorts.now ≤ 100_000 }
     requires positive { 1 ≤ block }
     requires enough { exercised ≤ sum shorts.now }
     requires supplied { draws_needed exercised block ≤ (S.meaning source.old).supply }
-    ensures used { result ≡ draws_needed exercised block }
     ensures shares { assigned.new ≡ assigned_by (S.meaning source.old) block exercised shorts.now }
     ensures drawn { S.meaning source.new ≡ behind_all (bounds (draws_needed exercised block) (sum shorts.now) block) (S.meaning source.old) }
 {
     assigned.fill(0);
     let mut remaining = total(shorts) as u32;
     let mut left = exercised;
-    let mut used = 0;
     while left > 0 {
         let start = draw_start(source, remaining);
         let count = block.min(left);
         take_stretch(shorts, start, count, assigned);
         remaining -= count;
         left -= count;
-        used += 1;
     }
-    used
 }
 
 // Assigns the exercised contracts to the short contracts of the accounts, block by block, each block from a starting
@@ -169,6 +166,7 @@ pub fn allocate<S: Draws>(
     ensures worked { Worked }
     ensures nothing { NothingExercised }
 {
-    check(source, shorts, exercised, block, assigned.len())?;
-    Ok(assign(source, shorts, exercised, block, assigned))
+    let used = check(source, shorts, exercised, block, assigned)?;
+    assign(source, shorts, exercised, block, assigned);
+    Ok(used)
 }

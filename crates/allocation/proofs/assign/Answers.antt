@@ -1,4 +1,4 @@
-use Rattle.std.proofs.Common.{◌≡◌, ◌≤◌, replicate, length, ap, ◌∙◌, arith}
+use Rattle.std.proofs.Common.{◌≡◌, replicate, length, ap, ◌∙◌, arith}
 use Rattle.allocation.proofs.Going.{going_none, going_all}
 use Rattle.allocation.proofs.Turn.{turn}
 use Rattle.allocation.proofs.assign.Goals as goal
@@ -16,5 +16,5 @@ loop-left-preserved g c =
 pub returns : goal.returns
 returns g c =
     let z : c.loop-left.left ≡ 0 = omega arith in
-    let a = going_all (g.S.Draws.meaning c.args.source.now) c.args.shorts.now c.args.exercised c.args.block c.requires.positive (g.S.Draws.meaning c.loop-left.source) c.loop-left.assigned c.loop-left.remaining c.loop-left.used (rw z at c.loop-left.invariant) in
-    record { used = a.0; shares = a.1; drawn = a.2 }
+    let a = going_all (g.S.Draws.meaning c.args.source.now) c.args.shorts.now c.args.exercised c.args.block c.requires.positive (g.S.Draws.meaning c.loop-left.source) c.loop-left.assigned c.loop-left.remaining (rw z at c.loop-left.invariant) in
+    record { shares = a.0; drawn = a.1 }
