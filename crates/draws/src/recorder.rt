@@ -3,6 +3,7 @@ ghost use Rattle.draws.specs.Draw.{drawn, after, replied, draw_reply};
 ghost use Rattle.draws.specs.Record.{kept, room, limited, limited_below, noted, source_after};
 
 use crate::{Draws, Refusal};
+use few::Few;
 
 const PLACES: usize = 256;
 
@@ -16,8 +17,7 @@ pub struct Pair {
 // Up to 256 pairs, in the order in which they came.
 #[derive(Clone, Copy)]
 pub struct Table {
-    pairs: [Pair; PLACES],
-    used: usize,
+    pairs: Few<Pair, PLACES>,
 }
 
 impl Table {
@@ -26,11 +26,10 @@ impl Table {
         ensures all { room result ≡ 256 }
     {
         Table {
-            pairs: [Pair {
+            pairs: Few::new(Pair {
                 bound: 0,
                 answer: 0,
-            }; PLACES],
-            used: 0,
+            }),
         }
     }
 
@@ -38,19 +37,14 @@ impl Table {
     pub fn free(&self) -> u64
         ensures { result ≡ room self.now }
     {
-        if self.used < PLACES {
-            (PLACES - self.used) as u64
-        } else {
-            0
-        }
+        self.pairs.room() as u64
     }
 
     // The pairs recorded, the oldest first.
     pub fn recorded(&self) -> &[Pair]
         ensures { result.now ≡ kept self.now }
     {
-        let used = self.used.min(PLACES);
-        &self.pairs[0..used]
+        self.pairs.as_slice()
     }
 
     fn note(&mut self, bound: u32, answer: u32)
@@ -58,8 +52,7 @@ impl Table {
         ensures pairs { kept self.new ≡ kept self.old ++ (record { bound = bound; answer = answer } ∷ []) }
         ensures less { room self.new ≡ room self.old - 1 }
     {
-        self.pairs[self.used] = Pair { bound, answer };
-        self.used += 1;
+        let _ = self.pairs.push(Pair { bound, answer });
     }
 }
 

@@ -1,5 +1,6 @@
 -- What a list of numbers holds.
 use Rattle.std.specs.Prelude.{ℕ, List, take}
+use Rattle.few.specs.Contents.{contents}
 use Rattle.parts.specs.declared.numbers.Numbers.{Numbers}
 
 -- a list of numbers has room for 9: seven fields, reply and result
@@ -7,4 +8,4 @@ abbrev pub nine : List ℕ → List ℕ
 nine xs = take 9 xs
 
 abbrev pub list_of : Numbers → List ℕ
-list_of n = nine (take n.count n.values)
+list_of n = contents n.values

@@ -1,5 +1,5 @@
 // The numbers of a line, in a fixed place.
-ghost use Rattle.std.specs.Prelude.{◌≡◌, [], ◌∷◌, ◌++◌, map, take, MatchOption};
+ghost use Rattle.std.specs.Prelude.{◌≡◌, [], ◌∷◌, ◌++◌, map, MatchOption};
 ghost use Rattle.std.specs.Str.Parse.{digits_value};
 ghost use Rattle.std.specs.List.{AllByRecursion};
 ghost use Rattle.grammar.specs.Kinds.{IsNumber};
@@ -7,36 +7,13 @@ ghost use Rattle.parts.specs.Parts.{parts_of, numbers_of};
 ghost use Rattle.parts.specs.Lists.{nine, list_of};
 
 use super::line::{Line, fields_into, placed};
+use few::Few;
 use grammar::number;
 
 // At most 9 numbers: seven fields, and of a filled line reply and result.
 #[derive(Clone, Copy)]
 pub struct Numbers {
-    values: [u32; 9],
-    count: usize,
-}
-
-// The first `count` numbers, or all where there are fewer.
-fn front(values: &[u32; 9], count: usize) -> &[u32]
-    ensures { result.now ≡ nine (take count values.now) }
-{
-    if count < 9 {
-        &values[0..count]
-    } else {
-        &values[0..9]
-    }
-}
-
-// Puts `n` behind the first `count` numbers, if there is room, and answers the new count.
-fn put(values: &mut [u32; 9], count: usize, n: u32) -> usize
-    ensures { nine (take result values.new) ≡ nine (nine (take count values.old) ++ (n ∷ [])) }
-{
-    if count < 9 {
-        values[count] = n;
-        count + 1
-    } else {
-        9
-    }
+    values: Few<u32, 9>,
 }
 
 impl Numbers {
@@ -44,22 +21,21 @@ impl Numbers {
         ensures { list_of result ≡ [] }
     {
         Numbers {
-            values: [0; 9],
-            count: 0,
+            values: Few::new(0),
         }
     }
 
     pub fn as_slice(&self) -> &[u32]
         ensures { result.now ≡ list_of self.now }
     {
-        front(&self.values, self.count)
+        self.values.as_slice()
     }
 
-    // Appends a number.
+    // Appends a number, if there is room.
     pub fn push(&mut self, n: u32)
         ensures { list_of self.new ≡ nine (list_of self.old ++ (n ∷ [])) }
     {
-        self.count = put(&mut self.values, self.count, n);
+        let _ = self.values.push(n);
     }
 }
 
