@@ -1,5 +1,5 @@
 ghost use Rattle.std.specs.Prelude.{◌≡◌, ◌+◌, ◌≤◌, true};
-ghost use Rattle.draws.specs.Checks.{first_refusal};
+ghost use Rattle.draws.specs.Checks.{checked};
 ghost use Rattle.positions.specs.Rows.{total_longs, Below};
 ghost use Rattle.ledger.specs.Lookups.{has_account, has_series};
 ghost use Rattle.dealing.specs.Trades.{trade_in_range, fill_in, fill_of, trade_checks, buyer_leg, seller_leg, traded};
@@ -112,32 +112,32 @@ fn longs_after(book: &State, t: &Trade) -> u64
 }
 
 // Why a trade is turned back, if it is: the first check that fails.
-pub fn refuse_trade(book: &State, t: &Trade) -> Option<Refusal>
+pub fn check_trade(book: &State, t: &Trade) -> Result<(), Refusal>
     requires { Facts book.now }
-    ensures { result ≡ first_refusal (trade_checks book.now t.now) }
+    ensures { result ≡ checked (trade_checks book.now t.now) }
 {
     if !in_range(t) {
-        return Some(Refusal::OutOfRange);
+        return Err(Refusal::OutOfRange);
     }
     if !book.has_account(t.buyer) || !book.has_account(t.seller) {
-        return Some(Refusal::NoAccount);
+        return Err(Refusal::NoAccount);
     }
     if !book.has_series(t.series) {
-        return Some(Refusal::NoSeries);
+        return Err(Refusal::NoSeries);
     }
     if book.expired(t.series) {
-        return Some(Refusal::Expired);
+        return Err(Refusal::Expired);
     }
     if !book.trading {
-        return Some(Refusal::TradingClosed);
+        return Err(Refusal::TradingClosed);
     }
     if book.legs.count + 2 > 256 {
-        return Some(Refusal::Full);
+        return Err(Refusal::Full);
     }
     if longs_after(book, t) > 100_000 {
-        return Some(Refusal::TooMany);
+        return Err(Refusal::TooMany);
     }
-    None
+    Ok(())
 }
 
 // Books both legs, and answers the first one's number.

@@ -1,5 +1,5 @@
 ghost use Rattle.std.specs.Prelude.{◌≡◌, ◌-◌, ◌≤◌, true, slice_index_or};
-ghost use Rattle.draws.specs.Checks.{first_refusal};
+ghost use Rattle.draws.specs.Checks.{checked};
 ghost use Rattle.positions.specs.Cells.{no_cell, on_side};
 ghost use Rattle.positions.specs.Kinds.{side_of_code};
 ghost use Rattle.positions.specs.Legs.{open_part};
@@ -75,30 +75,30 @@ fn room_for(book: &State, leg: &Leg, account: u32) -> bool
 }
 
 // Why a trade transfer is turned back, if it is.
-pub fn refuse_transfer(book: &State, leg: u32, account: u32) -> Option<Refusal>
+pub fn check_transfer(book: &State, leg: u32, account: u32) -> Result<(), Refusal>
     requires { Facts book.now }
-    ensures { result ≡ first_refusal (transfer_checks book.now leg account) }
+    ensures { result ≡ checked (transfer_checks book.now leg account) }
 {
     if !book.has_account(account) {
-        return Some(Refusal::NoAccount);
+        return Err(Refusal::NoAccount);
     }
     if !book.has_leg(leg) {
-        return Some(Refusal::NoLeg);
+        return Err(Refusal::NoLeg);
     }
     let booked = book.legs.rows[leg as usize - 1];
     if !book.another_of_same(booked.account, account) {
-        return Some(Refusal::WrongAccount);
+        return Err(Refusal::WrongAccount);
     }
     if !is_free(booked.state) {
-        return Some(Refusal::LegHeld);
+        return Err(Refusal::LegHeld);
     }
     if !still_there(book, &booked) {
-        return Some(Refusal::TooFew);
+        return Err(Refusal::TooFew);
     }
     if !room_for(book, &booked, account) {
-        return Some(Refusal::TooMany);
+        return Err(Refusal::TooMany);
     }
-    None
+    Ok(())
 }
 
 // Books the leg anew in the other account.
@@ -116,24 +116,24 @@ pub fn transfer(book: &mut State, leg: u32, account: u32)
 }
 
 // Why a give-up is turned back, if it is.
-pub fn refuse_give_up(book: &State, leg: u32, participant: u32) -> Option<Refusal>
+pub fn check_give_up(book: &State, leg: u32, participant: u32) -> Result<(), Refusal>
     requires { Facts book.now }
-    ensures { result ≡ first_refusal (give_up_checks book.now leg participant) }
+    ensures { result ≡ checked (give_up_checks book.now leg participant) }
 {
     if !is_within(participant, 1, 99) {
-        return Some(Refusal::OutOfRange);
+        return Err(Refusal::OutOfRange);
     }
     if !book.has_leg(leg) {
-        return Some(Refusal::NoLeg);
+        return Err(Refusal::NoLeg);
     }
     let booked = book.legs.rows[leg as usize - 1];
     if book.participant(booked.account) == participant {
-        return Some(Refusal::WrongAccount);
+        return Err(Refusal::WrongAccount);
     }
     if !is_free(booked.state) {
-        return Some(Refusal::LegHeld);
+        return Err(Refusal::LegHeld);
     }
-    None
+    Ok(())
 }
 
 // Holds the leg for the participant.
@@ -147,37 +147,37 @@ pub fn give_up(book: &mut State, leg: u32, participant: u32)
 }
 
 // Why a take-up is turned back, if it is.
-pub fn refuse_take_up(book: &State, leg: u32, answer: u32, account: u32) -> Option<Refusal>
+pub fn check_take_up(book: &State, leg: u32, answer: u32, account: u32) -> Result<(), Refusal>
     requires { Facts book.now }
-    ensures { result ≡ first_refusal (take_up_checks book.now leg answer account) }
+    ensures { result ≡ checked (take_up_checks book.now leg answer account) }
 {
     let confirms = answer == 1;
     if !is_within(answer, 1, 2) || !confirms && account != 0 {
-        return Some(Refusal::OutOfRange);
+        return Err(Refusal::OutOfRange);
     }
     if confirms && !book.has_account(account) {
-        return Some(Refusal::NoAccount);
+        return Err(Refusal::NoAccount);
     }
     if !book.has_leg(leg) {
-        return Some(Refusal::NoLeg);
+        return Err(Refusal::NoLeg);
     }
     let booked = book.legs.rows[leg as usize - 1];
     if is_free(booked.state) {
-        return Some(Refusal::LegFree);
+        return Err(Refusal::LegFree);
     }
     if !confirms {
-        return None;
+        return Ok(());
     }
     if !is_held_for(booked.state, book.participant(account)) {
-        return Some(Refusal::WrongAccount);
+        return Err(Refusal::WrongAccount);
     }
     if !still_there(book, &booked) {
-        return Some(Refusal::TooFew);
+        return Err(Refusal::TooFew);
     }
     if !room_for(book, &booked, account) {
-        return Some(Refusal::TooMany);
+        return Err(Refusal::TooMany);
     }
-    None
+    Ok(())
 }
 
 // Books the held leg anew in the account, and frees it.
@@ -217,29 +217,29 @@ pub fn take_up(book: &mut State, leg: u32, answer: u32, account: u32)
 }
 
 // Why a position transfer is turned back, if it is.
-pub fn refuse_position(book: &State, t: &PositionTransfer) -> Option<Refusal>
+pub fn check_position(book: &State, t: &PositionTransfer) -> Result<(), Refusal>
     requires { Facts book.now }
-    ensures { result ≡ first_refusal (position_checks book.now t.now) }
+    ensures { result ≡ checked (position_checks book.now t.now) }
 {
     if !is_within(t.side, 1, 2) || !is_within(t.quantity, 1, 100_000) {
-        return Some(Refusal::OutOfRange);
+        return Err(Refusal::OutOfRange);
     }
     if !book.has_account(t.from) || !book.has_account(t.to) {
-        return Some(Refusal::NoAccount);
+        return Err(Refusal::NoAccount);
     }
     if !book.has_series(t.series) {
-        return Some(Refusal::NoSeries);
+        return Err(Refusal::NoSeries);
     }
     if book.expired(t.series) {
-        return Some(Refusal::Expired);
+        return Err(Refusal::Expired);
     }
     if !book.another_of_same(t.from, t.to) {
-        return Some(Refusal::WrongAccount);
+        return Err(Refusal::WrongAccount);
     }
     if t.quantity > book.cell(t.from, t.series).on_side(Side::of_code(t.side)) {
-        return Some(Refusal::TooFew);
+        return Err(Refusal::TooFew);
     }
-    None
+    Ok(())
 }
 
 // Moves the contracts.
