@@ -35,19 +35,19 @@ impl State {
     pub fn has_account(&self, n: u32) -> bool
         ensures { result ≡ has_account self.now n }
     {
-        is_within(n, 1, self.accounts.count)
+        self.accounts.has(n)
     }
 
     pub fn has_series(&self, n: u32) -> bool
         ensures { result ≡ has_series self.now n }
     {
-        is_within(n, 1, self.series.count)
+        self.series.has(n)
     }
 
     pub fn has_leg(&self, n: u32) -> bool
         ensures { result ≡ has_leg self.now n }
     {
-        is_within(n, 1, self.legs.count)
+        self.legs.has(n)
     }
 
     // Whether the series expired on an earlier day.

@@ -49,29 +49,20 @@ pub struct Request {
     pub pending: bool,
 }
 
+// Up to N rows, of which the first `count` are in use. Rows are numbered from 1.
 #[derive(Clone, Copy)]
-pub struct Accounts {
-    pub rows: [Account; 32],
+pub struct Table<T, const N: usize> {
+    pub rows: [T; N],
     pub count: u32,
 }
 
-#[derive(Clone, Copy)]
-pub struct Listing {
-    pub rows: [Series; 32],
-    pub count: u32,
-}
+pub type Accounts = Table<Account, 32>;
 
-#[derive(Clone, Copy)]
-pub struct Legs {
-    pub rows: [Leg; 256],
-    pub count: u32,
-}
+pub type Listing = Table<Series, 32>;
 
-#[derive(Clone, Copy)]
-pub struct Requests {
-    pub rows: [Request; 128],
-    pub count: u32,
-}
+pub type Legs = Table<Leg, 256>;
+
+pub type Requests = Table<Request, 128>;
 
 // The house's criteria.
 #[derive(Clone, Copy)]
