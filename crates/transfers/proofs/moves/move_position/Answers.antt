@@ -7,5 +7,4 @@ received-requires c =
     let s = c.args.book.now in
     let t = c.args.t.now in
     let n = series_placed s t.series c.requires.sound c.requires.listed in
-    let k = series_below s (t.series - 1) (omega (arith, n.from, n.row)) c.requires.sound (t.to - 1) in
-    (k.0, (k.1, c.requires.few))
+    record { small = series_below s (t.series - 1) (omega (arith, n.from, n.row)) c.requires.sound (t.to - 1); few = c.requires.few }

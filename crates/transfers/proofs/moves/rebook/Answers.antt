@@ -8,8 +8,7 @@ use Rattle.transfers.proofs.moves.rebook.Goals as goal
 
 pub left_by-requires : goal.left_by-requires
 left_by-requires c =
-    let b = c.requires.small (c.args.leg.now.account - 1) in
-    (c.requires.part.0, (c.requires.part.1, (c.requires.enough, (b.0, b.1))))
+    record { part = c.requires.part.0; few = c.requires.part.1; held = c.requires.enough; small = c.requires.small (c.args.leg.now.account - 1) }
 
 pub place-requires : goal.place-requires
 place-requires c =
