@@ -19,8 +19,8 @@ pub struct Fill {
 fn in_range(t: &Trade) -> bool
     ensures { result ≡ trade_in_range t.now }
 {
-    is_within(t.buyer_effect, 1, 2)
-        && is_within(t.seller_effect, 1, 2)
+    Effect::try_from(t.buyer_effect).is_ok()
+        && Effect::try_from(t.seller_effect).is_ok()
         && is_within(t.quantity, 1, 100_000)
         && is_within(t.price, 1, 1_000_000)
 }

@@ -182,7 +182,8 @@ pub fn take_up(book: &mut State, leg: u32, answer: u32, account: u32)
 pub fn check_position(book: &Ledger, t: &PositionTransfer) -> Result<(), Refusal>
     ensures { result ≡ checked (position_checks book.now.state t.now) }
 {
-    if !is_within(t.side, 1, 2) || !is_within(t.quantity, 1, 100_000) {
+    let side = Side::try_from(t.side).map_err(|_| Refusal::OutOfRange)?;
+    if !is_within(t.quantity, 1, 100_000) {
         return Err(Refusal::OutOfRange);
     }
     if !book.state.has_account(t.from) || !book.state.has_account(t.to) {
@@ -198,7 +199,7 @@ pub fn check_position(book: &Ledger, t: &PositionTransfer) -> Result<(), Refusal
         return Err(Refusal::WrongAccount);
     }
     let cell = book.state.cell(t.from, t.series);
-    if t.quantity > cell.on_side(Side::of_code(t.side)) {
+    if t.quantity > cell.on_side(side) {
         return Err(Refusal::TooFew);
     }
     Ok(())
