@@ -1,4 +1,4 @@
-ghost use Rattle.std.specs.Prelude.{◌≡◌, ◌-◌, ◌≤◌, true, slice_index_or};
+ghost use Rattle.std.specs.Prelude.{◌≡◌, ◌-◌, ◌≤◌, true, slice_index_or, if◌then◌else◌, Some, None, IfSome};
 ghost use Rattle.draws.specs.Checks.{checked};
 ghost use Rattle.positions.specs.Cells.{no_cell, on_side};
 ghost use Rattle.positions.specs.Kinds.{side_of_code};
@@ -53,6 +53,16 @@ fn rebooking_of(book: &Ledger, leg: &Leg, account: u32) -> Rebooking
     Rebooking { cells, closed }
 }
 
+// The leg of that number, if the book has it.
+fn find_leg(book: &Ledger, n: u32) -> Option<Leg>
+    ensures found { result ≡ if has_leg book.now.state n then Some (leg_of book.now.state n) else None }
+    ensures valid { IfSome result (ValidLeg book.now.state) }
+{
+    book.state
+        .has_leg(n)
+        .then(|| book.state.legs.rows[n as usize - 1])
+}
+
 // Whether the leg's account still holds the leg's open part on its side, and the series' longs stay within their limit
 // when the leg is booked anew.
 fn check_rebooking(book: &Ledger, leg: &Leg, account: u32) -> Result<(), Refusal>
@@ -77,10 +87,7 @@ pub fn check_transfer(book: &Ledger, leg: u32, account: u32) -> Result<(), Refus
     if !book.state.has_account(account) {
         return Err(Refusal::NoAccount);
     }
-    if !book.state.has_leg(leg) {
-        return Err(Refusal::NoLeg);
-    }
-    let booked = book.state.legs.rows[leg as usize - 1];
+    let booked = find_leg(book, leg).ok_or(Refusal::NoLeg)?;
     if !book.state.another_of_same(booked.account, account) {
         return Err(Refusal::WrongAccount);
     }
@@ -111,10 +118,7 @@ pub fn check_give_up(book: &Ledger, leg: u32, participant: u32) -> Result<(), Re
     if !is_within(participant, 1, 99) {
         return Err(Refusal::OutOfRange);
     }
-    if !book.state.has_leg(leg) {
-        return Err(Refusal::NoLeg);
-    }
-    let booked = book.state.legs.rows[leg as usize - 1];
+    let booked = find_leg(book, leg).ok_or(Refusal::NoLeg)?;
     if book.state.participant(booked.account) == participant {
         return Err(Refusal::WrongAccount);
     }
@@ -145,10 +149,7 @@ pub fn check_take_up(book: &Ledger, leg: u32, answer: u32, account: u32) -> Resu
     if confirms && !book.state.has_account(account) {
         return Err(Refusal::NoAccount);
     }
-    if !book.state.has_leg(leg) {
-        return Err(Refusal::NoLeg);
-    }
-    let booked = book.state.legs.rows[leg as usize - 1];
+    let booked = find_leg(book, leg).ok_or(Refusal::NoLeg)?;
     if is_free(booked.state) {
         return Err(Refusal::LegFree);
     }
