@@ -1,6 +1,6 @@
 ghost use Rattle.std.specs.Prelude.{◌≡◌, ◌+◌, ◌≤◌, true};
 ghost use Rattle.draws.specs.Checks.{checked};
-ghost use Rattle.positions.specs.Rows.{total_longs, Below};
+ghost use Rattle.positions.specs.Rows.{Below};
 ghost use Rattle.ledger.specs.Lookups.{has_account, has_series};
 ghost use Rattle.dealing.specs.Trades.{trade_in_range, account_on, leg_on, placed_on, closed_on, buyer_leg, seller_leg, fill_in, fill_of, trade_checks, traded};
 ghost use Rattle.ledger.specs.Sound.{Facts};
@@ -125,6 +125,7 @@ pub fn check_trade(book: &Ledger, t: &Trade) -> Result<(), Refusal>
 }
 
 // Books both legs, and answers the first one's number.
+// Kept: `Facts` is asked, since `invariant_of-book` of a `&mut Ledger` does not close: it needs the stage and the limit.
 pub fn book_trade(book: &mut State, t: &Trade) -> u32
     requires sound { Facts book.old }
     requires buyer { has_account book.old t.now.buyer ≡ true }

@@ -4,7 +4,7 @@ ghost use Rattle.positions.specs.Cells.{no_cell, on_side};
 ghost use Rattle.positions.specs.Kinds.{side_of_code};
 ghost use Rattle.positions.specs.Legs.{open_part};
 ghost use Rattle.positions.specs.Rows.{Below};
-ghost use Rattle.ledger.specs.Tables.{cell_at, leg_of, with_cells};
+ghost use Rattle.ledger.specs.Tables.{cell_at, leg_of};
 ghost use Rattle.ledger.specs.Lookups.{has_account, has_series, has_leg};
 ghost use Rattle.transfers.specs.Transfers.{rebooking_in, rebooking_of, still_there, rebooking_checks, transferred, transfer_checks, give_up_checks, given_up, confirms, take_up_checks, taken_up, position_checks, position_moved};
 ghost use Rattle.ledger.specs.Sound.{Facts, ValidLeg};
@@ -98,6 +98,7 @@ pub fn check_transfer(book: &Ledger, leg: u32, account: u32) -> Result<(), Refus
 }
 
 // Books the leg anew in the other account.
+// Kept: `Facts` is asked, since `invariant_of-book` of a `&mut Ledger` does not close: it needs the stage and the limit.
 pub fn transfer(book: &mut State, leg: u32, account: u32)
     requires sound { Facts book.old }
     requires known { has_account book.old account ≡ true }
@@ -139,6 +140,7 @@ pub fn give_up(book: &mut Ledger, leg: u32, participant: u32)
 }
 
 // Why a take-up is turned back, if it is.
+// Kept: the answer is the archive's number.
 pub fn check_take_up(book: &Ledger, leg: u32, answer: u32, account: u32) -> Result<(), Refusal>
     ensures { result ≡ checked (take_up_checks book.now.state leg answer account) }
 {
@@ -163,6 +165,7 @@ pub fn check_take_up(book: &Ledger, leg: u32, answer: u32, account: u32) -> Resu
 }
 
 // Confirms the held leg for the account, or rejects it.
+// Kept: `Facts` is asked, since `transfer` asks it.
 pub fn take_up(book: &mut State, leg: u32, answer: u32, account: u32)
     requires sound { Facts book.old }
     requires leg { has_leg book.old leg ≡ true }
@@ -207,6 +210,7 @@ pub fn check_position(book: &Ledger, t: &PositionTransfer) -> Result<(), Refusal
 }
 
 // Moves the contracts.
+// Kept: `Facts` is asked, since `invariant_of-book` of a `&mut Ledger` does not close: it needs the stage and two accounts.
 pub fn move_position(book: &mut State, t: &PositionTransfer)
     requires sound { Facts book.old }
     requires from { has_account book.old t.now.from ≡ true }
