@@ -1,5 +1,5 @@
 -- The tables of a book, at its opening and with a row changed.
-use Rattle.std.specs.Prelude.{ℕ, ◌+◌, ◌-◌, true, false, List, [], replicate, None, slice_index_or, slice_set}
+use Rattle.std.specs.Prelude.{ℕ, ◌+◌, ◌-◌, ◌≤◌, true, false, List, [], replicate, None, slice_index_or, slice_set}
 use Rattle.positions.specs.declared.cell.Cell.{Cell}
 use Rattle.positions.specs.declared.leg.Leg.{Leg}
 use Rattle.positions.specs.declared.leg.LegEvent.{LegEvent}
@@ -55,6 +55,10 @@ no_request = record { account = 0; series = 0; quantity = 0; pending = false }
 
 -- ── the opening ──
 
+-- no row is in use
+abbrev pub empty_table : {T : Type 0} → (size : ℕ) → T → Table T size
+empty_table size r = record { rows = replicate size r; count = 0 }
+
 abbrev pub opening : ℕ → ℕ → ℕ → ℕ → State
 opening number day size block = record {
   terms = record { number = number; size = size; block = block };
@@ -64,13 +68,13 @@ opening number day size block = record {
   trading = true;
   fixing = None;
   house = record { calls = Amount 1; puts = Amount 1 };
-  accounts = record { rows = replicate 32 no_account; count = 0 };
-  series = record { rows = replicate 32 (new_series no_contract); count = 0 };
-  legs = record { rows = replicate 256 no_leg; count = 0 };
-  requests = record { rows = replicate 128 no_request; count = 0 };
+  accounts = empty_table 32 no_account;
+  series = empty_table 32 (new_series no_contract);
+  legs = empty_table 256 no_leg;
+  requests = empty_table 128 no_request;
 }
 
--- ── look-ups by place ──
+-- ── look-ups by place, and by number ──
 
 abbrev pub row : State → ℕ → Series
 row s at = slice_index_or s.series.rows at past_series
@@ -82,11 +86,19 @@ cells_of s at = (row s at).cells
 abbrev pub cell_at : State → ℕ → ℕ → Cell
 cell_at s a i = slice_index_or (cells_of s (i - 1)) (a - 1) no_cell
 
+-- the number of a row, counted from 1
+abbrev pub RowNumber : ℕ → ℕ → Type 0
+RowNumber size n = (1 ≤ n) × (n ≤ size)
+
+-- a table's row by its number; d past the table's end
+abbrev pub row_of : {T : Type 0} {size : ℕ} → Table T size → ℕ → T → T
+row_of t n d = slice_index_or t.rows (n - 1) d
+
 abbrev pub account_of : State → ℕ → Account
-account_of s n = slice_index_or s.accounts.rows (n - 1) no_account
+account_of s n = row_of s.accounts n no_account
 
 abbrev pub leg_of : State → ℕ → Leg
-leg_of s n = slice_index_or s.legs.rows (n - 1) no_leg
+leg_of s n = row_of s.legs n no_leg
 
 -- ── a state with one part changed ──
 
