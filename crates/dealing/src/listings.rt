@@ -3,7 +3,7 @@ ghost use Rattle.draws.specs.Checks.{checked};
 ghost use Rattle.dealing.specs.Listings.{open_checks, account_checks, account_added, contract_of, listed, series_checks, series_added};
 
 use ledger::{Account, Contract, Listing, Refusal, Series, State, is_within};
-use positions::{AccountType, Cell, Right};
+use positions::{AccountType, Right};
 
 // Why an opening is turned back, if it is.
 pub fn check_open(number: u32, day: u32, size: u32, block: u32) -> Result<(), Refusal>
@@ -57,13 +57,8 @@ pub fn add_account(book: &mut State, participant: u32, code: u32) -> u32
     ensures number { result ≡ book.old.accounts.count + 1 }
     ensures after { book.new ≡ account_added book.old participant code }
 {
-    book.accounts.push(Account {
-        participant,
-        account_type: AccountType::of_code(code),
-        collateral: 0,
-        calls: None,
-        puts: None,
-    })
+    let account_type = AccountType::of_code(code);
+    book.accounts.push(Account::new(participant, account_type))
 }
 
 // Why a series is turned back, if it is.
@@ -93,8 +88,6 @@ pub fn add_series(book: &mut State, right: u32, strike: u32, expiry: u32) -> u32
     ensures number { result ≡ book.old.series.count + 1 }
     ensures after { book.new ≡ series_added book.old right strike expiry }
 {
-    book.series.push(Series {
-        contract: contract_of(right, strike, expiry),
-        cells: [Cell::empty(); 32],
-    })
+    let contract = contract_of(right, strike, expiry);
+    book.series.push(Series::new(contract))
 }

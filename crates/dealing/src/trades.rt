@@ -1,6 +1,7 @@
 ghost use Rattle.std.specs.Prelude.{◌≡◌, ◌+◌, ◌≤◌, true};
 ghost use Rattle.draws.specs.Checks.{checked};
 ghost use Rattle.positions.specs.Rows.{Below};
+ghost use Rattle.ledger.specs.Tables.{RowNumber};
 ghost use Rattle.ledger.specs.Lookups.{has_account, has_series};
 ghost use Rattle.dealing.specs.Trades.{trade_in_range, account_on, leg_on, placed_on, closed_on, buyer_leg, seller_leg, fill_in, fill_of, trade_checks, traded};
 ghost use Rattle.ledger.specs.Sound.{Facts};
@@ -47,7 +48,7 @@ fn leg_on(side: Side, t: &Trade) -> Leg
 
 // Books one side's leg in the cells of a series, and answers the leg.
 fn place_leg(cells: &mut [Cell; 32], side: Side, t: &Trade) -> Leg
-    requires account { (1 ≤ account_on side t.now) × (account_on side t.now ≤ 32) }
+    requires account { RowNumber 32 (account_on side t.now) }
     requires small { Below cells.old 300_000 }
     requires few { t.now.quantity ≤ 100_000 }
     ensures leg { result ≡ leg_on side t.now (closed_on side t.now cells.old) }
@@ -66,8 +67,8 @@ fn place_leg(cells: &mut [Cell; 32], side: Side, t: &Trade) -> Leg
 
 // Books both legs in the cells of a series, the buyer's first, and answers them.
 fn place_legs(cells: &mut [Cell; 32], t: &Trade) -> (Leg, Leg)
-    requires buyer { (1 ≤ t.now.buyer) × (t.now.buyer ≤ 32) }
-    requires seller { (1 ≤ t.now.seller) × (t.now.seller ≤ 32) }
+    requires buyer { RowNumber 32 t.now.buyer }
+    requires seller { RowNumber 32 t.now.seller }
     requires small { Below cells.old 100_000 }
     requires few { t.now.quantity ≤ 100_000 }
     ensures legs { result ≡ (buyer_leg t.now (fill_in cells.old t.now).bought, seller_leg t.now (fill_in cells.old t.now).sold) }

@@ -4,7 +4,7 @@ ghost use Rattle.positions.specs.Cells.{no_cell, on_side};
 ghost use Rattle.positions.specs.Kinds.{side_of_code};
 ghost use Rattle.positions.specs.Legs.{open_part};
 ghost use Rattle.positions.specs.Rows.{Below};
-ghost use Rattle.ledger.specs.Tables.{cell_at, leg_of};
+ghost use Rattle.ledger.specs.Tables.{RowNumber, cell_at, leg_of};
 ghost use Rattle.ledger.specs.Lookups.{has_account, has_series, has_leg};
 ghost use Rattle.transfers.specs.Transfers.{rebooking_in, rebooking_of, still_there, rebooking_checks, transferred, transfer_checks, give_up_checks, given_up, confirms, take_up_checks, taken_up, position_checks, position_moved};
 ghost use Rattle.ledger.specs.Sound.{Facts, ValidLeg};
@@ -21,8 +21,8 @@ pub struct Rebooking {
 
 // Takes the leg from its account's cell and books it anew in the other's, and answers its closed part there.
 fn rebook(cells: &mut [Cell; 32], leg: &Leg, account: u32) -> u32
-    requires from { (1 ≤ leg.now.account) × (leg.now.account ≤ 32) }
-    requires to { (1 ≤ account) × (account ≤ 32) }
+    requires from { RowNumber 32 leg.now.account }
+    requires to { RowNumber 32 account }
     requires small { Below cells.old 100_000 }
     requires part { (leg.now.closed ≤ leg.now.quantity) × (leg.now.quantity ≤ 100_000) }
     requires enough { open_part leg.now ≤ on_side leg.now.side (slice_index_or cells.old (leg.now.account - 1) no_cell) }
@@ -58,9 +58,7 @@ fn find_leg(book: &Ledger, n: u32) -> Option<Leg>
     ensures found { result ≡ if has_leg book.now.state n then Some (leg_of book.now.state n) else None }
     ensures valid { IfSome result (ValidLeg book.now.state) }
 {
-    book.state
-        .has_leg(n)
-        .then(|| book.state.legs.rows[n as usize - 1])
+    book.state.has_leg(n).then(|| *book.state.legs.row(n))
 }
 
 // Whether the leg's account still holds the leg's open part on its side, and the series' longs stay within their limit
@@ -106,7 +104,7 @@ pub fn transfer(book: &mut State, leg: u32, account: u32)
     requires enough { still_there book.old (leg_of book.old leg) ≡ true }
     ensures { book.new ≡ transferred book.old leg account }
 {
-    let booked = book.legs.rows[leg as usize - 1];
+    let booked = *book.legs.row(leg);
     let cells = &mut book.series.rows[booked.series as usize - 1].cells;
     let closed = rebook(cells, &booked, account);
     book.legs.rebook(leg as usize - 1, account, closed);
