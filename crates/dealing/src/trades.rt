@@ -126,7 +126,7 @@ pub fn check_trade(book: &Ledger, t: &Trade) -> Result<(), Refusal>
 }
 
 // Books both legs, and answers the first one's number.
-// Kept: `Facts` is asked, since `invariant_of-book` of a `&mut Ledger` does not close: it needs the stage and the limit.
+// Kept: `Facts` is asked; of a `&mut Ledger` the goal `invariant_of-book` does not close without the input stage.
 pub fn book_trade(book: &mut State, t: &Trade) -> u32
     requires sound { Facts book.old }
     requires buyer { has_account book.old t.now.buyer ≡ true }

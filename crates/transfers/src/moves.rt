@@ -96,7 +96,7 @@ pub fn check_transfer(book: &Ledger, leg: u32, account: u32) -> Result<(), Refus
 }
 
 // Books the leg anew in the other account.
-// Kept: `Facts` is asked, since `invariant_of-book` of a `&mut Ledger` does not close: it needs the stage and the limit.
+// Kept: `Facts` is asked; of a `&mut Ledger` the goal `invariant_of-book` does not close without the input stage.
 pub fn transfer(book: &mut State, leg: u32, account: u32)
     requires sound { Facts book.old }
     requires known { has_account book.old account ≡ true }
@@ -208,7 +208,7 @@ pub fn check_position(book: &Ledger, t: &PositionTransfer) -> Result<(), Refusal
 }
 
 // Moves the contracts.
-// Kept: `Facts` is asked, since `invariant_of-book` of a `&mut Ledger` does not close: it needs the stage and two accounts.
+// Kept: `Facts` is asked; of a `&mut Ledger` the goal `invariant_of-book` does not close without the input stage.
 pub fn move_position(book: &mut State, t: &PositionTransfer)
     requires sound { Facts book.old }
     requires from { has_account book.old t.now.from ≡ true }
