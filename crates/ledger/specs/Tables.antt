@@ -33,11 +33,11 @@ Requests = Table Request 128
 
 -- ── rows ──
 
-abbrev pub no_account : Account
-no_account = record { participant = 0; account_type = type.House; collateral = 0; calls = None; puts = None }
-
 abbrev pub new_account : ℕ → AccountType → Account
 new_account participant t = record { participant = participant; account_type = t; collateral = 0; calls = None; puts = None }
+
+abbrev pub no_account : Account
+no_account = new_account 0 type.House
 
 abbrev pub no_contract : Contract
 no_contract = record { right = Call; strike = 0; expiry = 0 }
@@ -103,16 +103,16 @@ leg_of s n = row_of s.legs n no_leg
 -- ── a state with one part changed ──
 
 abbrev pub with_accounts : State → Accounts → State
-with_accounts s t = record { terms = s.terms; day = s.day; previous = s.previous; stage = s.stage; trading = s.trading; fixing = s.fixing; house = s.house; accounts = t; series = s.series; legs = s.legs; requests = s.requests }
+with_accounts s t = record s { accounts = t }
 
 abbrev pub with_listing : State → Listing → State
-with_listing s t = record { terms = s.terms; day = s.day; previous = s.previous; stage = s.stage; trading = s.trading; fixing = s.fixing; house = s.house; accounts = s.accounts; series = t; legs = s.legs; requests = s.requests }
+with_listing s t = record s { series = t }
 
 abbrev pub with_legs : State → Legs → State
-with_legs s t = record { terms = s.terms; day = s.day; previous = s.previous; stage = s.stage; trading = s.trading; fixing = s.fixing; house = s.house; accounts = s.accounts; series = s.series; legs = t; requests = s.requests }
+with_legs s t = record s { legs = t }
 
 abbrev pub with_cells : State → ℕ → List Cell → State
-with_cells s at cells = with_listing s (record { rows = slice_set s.series.rows at (record { contract = (row s at).contract; cells = cells }); count = s.series.count })
+with_cells s at cells = with_listing s (record s.series { rows = slice_set s.series.rows at (record (row s at) { cells = cells }) })
 
 -- ── a table with one row more, or changed ──
 
@@ -129,7 +129,7 @@ abbrev pub one_leg_more : Legs → Leg → Legs
 one_leg_more t l = one_more t l
 
 abbrev pub leg_rebooked : Legs → ℕ → ℕ → ℕ → Legs
-leg_rebooked t at account closed = record { rows = slice_set t.rows at (rebooked (slice_index_or t.rows at no_leg) account closed); count = t.count }
+leg_rebooked t at account closed = record t { rows = slice_set t.rows at (rebooked (slice_index_or t.rows at no_leg) account closed) }
 
 abbrev pub leg_stepped : Legs → ℕ → LegEvent → Legs
-leg_stepped t at e = record { rows = slice_set t.rows at (stepped (slice_index_or t.rows at no_leg) e); count = t.count }
+leg_stepped t at e = record t { rows = slice_set t.rows at (stepped (slice_index_or t.rows at no_leg) e) }

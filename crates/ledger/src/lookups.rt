@@ -34,8 +34,7 @@ impl Contract {
     }
 }
 
-// Kept: callers have checked the numbers that these ask about; a type for a checked number would be made and opened
-// around each call.
+// Kept: callers have checked the numbers; a type for a checked one would be made and opened around each call.
 impl State {
     pub fn has_account(&self, n: u32) -> bool
         ensures { result ≡ has_account self.now n }
