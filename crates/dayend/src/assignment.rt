@@ -9,7 +9,7 @@ ghost use Rattle.ledger.specs.Sound.{Facts};
 
 use draws::Draws;
 use ledger::{Account, Refusal, Series, Stage, State, Terms};
-use settlement::{assign_series, draws_for_series};
+use settlement::{AssignmentTerms, assign_series, draws_for_series};
 
 // The draws that all series need.
 fn draws_needed(rows: &[Series; 32], block: u32) -> u32
@@ -46,16 +46,13 @@ fn assign_rows<S: Draws>(
 {
     for i in 0..32 {
         let lapses = expires(&rows[i], previous, day);
-        let right = rows[i].contract.right;
-        assign_series(
-            source,
-            &mut rows[i].cells,
-            collateral,
-            right,
-            terms.size,
-            terms.block,
+        let terms = AssignmentTerms {
+            right: rows[i].contract.right,
+            size: terms.size,
+            block: terms.block,
             lapses,
-        );
+        };
+        assign_series(source, &mut rows[i].cells, collateral, &terms);
     }
 }
 

@@ -1,5 +1,6 @@
-ghost use Rattle.std.specs.Prelude.{◌≡◌, ◌+◌, ◌<◌};
-ghost use Rattle.ledger.specs.Tables.{opening, cells_of, with_cells, one_account_more, one_series_more, one_leg_more, leg_rebooked, leg_stepped};
+ghost use Rattle.std.specs.Prelude.{◌≡◌, ◌+◌, ◌<◌, ◌≤◌};
+ghost use Rattle.ledger.specs.Tables.{new_account, new_series, opening, cells_of, with_cells, empty_table, RowNumber, row_of, one_more, leg_rebooked, leg_stepped};
+ghost use Rattle.ledger.specs.Lookups.{has};
 
 use crate::state::*;
 use positions::{AccountType, Cell, Criterion, Leg, LegEvent, Right};
@@ -30,36 +31,10 @@ impl State {
                 calls: Criterion::Amount(1),
                 puts: Criterion::Amount(1),
             },
-            accounts: Accounts {
-                rows: [Account {
-                    participant: 0,
-                    account_type: AccountType::House,
-                    collateral: 0,
-                    calls: None,
-                    puts: None,
-                }; 32],
-                count: 0,
-            },
-            series: Listing {
-                rows: [Series {
-                    contract: NO_CONTRACT,
-                    cells: [Cell::empty(); 32],
-                }; 32],
-                count: 0,
-            },
-            legs: Legs {
-                rows: [Leg::empty(); 256],
-                count: 0,
-            },
-            requests: Requests {
-                rows: [Request {
-                    account: 0,
-                    series: 0,
-                    quantity: 0,
-                    pending: false,
-                }; 128],
-                count: 0,
-            },
+            accounts: Table::empty(Account::new(0, AccountType::House)),
+            series: Table::empty(Series::new(NO_CONTRACT)),
+            legs: Table::empty(Leg::empty()),
+            requests: Table::empty(Request::default()),
         }
     }
 
@@ -80,44 +55,72 @@ impl State {
     }
 }
 
-impl Accounts {
-    // One account more; its number.
-    pub fn push(&mut self, account: Account) -> u32
-        requires { self.old.count < 32 }
-        ensures number { result ≡ self.old.count + 1 }
-        ensures after { self.new ≡ one_account_more self.old account }
+impl Account {
+    // An account with no collateral, under the house's criteria.
+    pub fn new(participant: u32, account_type: AccountType) -> Account
+        ensures { result ≡ new_account participant account_type }
     {
-        self.rows[self.count as usize] = account;
-        self.count += 1;
-        self.count
+        Account {
+            participant,
+            account_type,
+            collateral: 0,
+            calls: None,
+            puts: None,
+        }
     }
 }
 
-impl Listing {
-    // One series more; its number.
-    pub fn push(&mut self, series: Series) -> u32
-        requires { self.old.count < 32 }
-        ensures number { result ≡ self.old.count + 1 }
-        ensures after { self.new ≡ one_series_more self.old series }
+impl Series {
+    // A series in which no account has a position.
+    pub fn new(contract: Contract) -> Series
+        ensures { result ≡ new_series contract }
     {
-        self.rows[self.count as usize] = series;
+        Series {
+            contract,
+            cells: [Cell::empty(); 32],
+        }
+    }
+}
+
+impl<T: Copy, const N: usize> Table<T, N> {
+    // A table with no row in use, and that row at each place.
+    pub fn empty(row: T) -> Table<T, N>
+        ensures { result ≡ empty_table N row }
+    {
+        Table {
+            rows: [row; N],
+            count: 0,
+        }
+    }
+
+    // Whether there is a row of that number.
+    pub fn has(&self, n: u32) -> bool
+        ensures { result ≡ has self.now n }
+    {
+        (1..=self.count).contains(&n)
+    }
+
+    // The row of a number.
+    pub fn row(&self, n: u32) -> &T
+        requires { RowNumber N n }
+        ensures { (d : T) → result.now ≡ row_of self.now n d }
+    {
+        &self.rows[n as usize - 1]
+    }
+
+    // One row more; its number.
+    pub fn push(&mut self, row: T) -> u32
+        requires { (self.old.count < N) × (N ≤ 4_294_967_295) }
+        ensures number { result ≡ self.old.count + 1 }
+        ensures after { self.new ≡ one_more self.old row }
+    {
+        self.rows[self.count as usize] = row;
         self.count += 1;
         self.count
     }
 }
 
 impl Legs {
-    // One leg more; its number.
-    pub fn push(&mut self, leg: Leg) -> u32
-        requires { self.old.count < 256 }
-        ensures number { result ≡ self.old.count + 1 }
-        ensures after { self.new ≡ one_leg_more self.old leg }
-    {
-        self.rows[self.count as usize] = leg;
-        self.count += 1;
-        self.count
-    }
-
     // Books the leg at a place anew in another account.
     pub fn rebook(&mut self, at: usize, account: u32, closed: u32)
         requires { at < 256 }

@@ -8,9 +8,6 @@ use Rattle.dayend.specs.Statement.{rows_needed}
 use Rattle.dayend.proofs.StatementLaws.{lines_few}
 use Rattle.dayend.proofs.statement.count_lines.Goals as goal
 
-pub count_series-all-requires : goal.count_series-all-requires
-count_series-all-requires c j = (c.requires.counts c.loop-row.row-index j c.loop-row-test.true).covered
-
 few : (c : goal.After-count_series-all) → lines_needed (get_or c.args.rows.now c.loop-row.row-index past_series).cells ≤ 96
 few c = lines_few (get_or c.args.rows.now c.loop-row.row-index past_series).cells (omega (arith, c.requires.sizes c.loop-row.row-index c.loop-row-test.true))
 
