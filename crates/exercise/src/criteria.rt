@@ -67,7 +67,7 @@ pub fn check_criterion(
 ) -> Result<(), Refusal>
     ensures { result ≡ checked (criterion_checks book.now account right form value) }
 {
-    if !is_within(right, 1, 2) || !form_in_range(account, form, value) {
+    if Right::try_from(right).is_err() || !form_in_range(account, form, value) {
         return Err(Refusal::OutOfRange);
     }
     if account != 0 && !book.has_account(account) {

@@ -9,5 +9,5 @@ pub use criteria::{
     fix_price, lodge, set_criterion, withdraw,
 };
 pub use requests::{
-    add_request, check_denial, check_rejection, check_request, deny, push_request, reject_request,
+    add_request, check_denial, check_rejection, check_request, deny, reject_request,
 };

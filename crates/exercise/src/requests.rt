@@ -1,20 +1,9 @@
 ghost use Rattle.std.specs.Prelude.{◌≡◌, ◌+◌, ◌<◌, ◌≤◌, true};
 ghost use Rattle.draws.specs.Checks.{checked};
 ghost use Rattle.ledger.specs.Lookups.{has_account, has_series};
-ghost use Rattle.exercise.specs.Requests.{request_checks, one_request_more, request_added, has_pending, rejection_checks, request_rejected, denial_checks, denial_noted};
+ghost use Rattle.exercise.specs.Requests.{request_checks, request_added, has_pending, rejection_checks, request_rejected, denial_checks, denial_noted};
 
-use ledger::{Ledger, Refusal, Request, Requests, State, is_within};
-
-// One request more; its number.
-pub fn push_request(requests: &mut Requests, request: Request) -> u32
-    requires { requests.old.count < 128 }
-    ensures number { result ≡ requests.old.count + 1 }
-    ensures after { requests.new ≡ one_request_more requests.old request }
-{
-    requests.rows[requests.count as usize] = request;
-    requests.count += 1;
-    requests.count
-}
+use ledger::{Ledger, Refusal, Request, State, is_within};
 
 // Why an exercise request is turned back, if it is.
 pub fn check_request(book: &Ledger, account: u32, series: u32, quantity: u32) -> Result<(), Refusal>
@@ -44,22 +33,19 @@ pub fn add_request(book: &mut State, account: u32, series: u32, quantity: u32) -
     ensures number { result ≡ book.old.requests.count + 1 }
     ensures after { book.new ≡ request_added book.old account series quantity }
 {
-    push_request(
-        &mut book.requests,
-        Request {
-            account,
-            series,
-            quantity,
-            pending: true,
-        },
-    )
+    book.requests.push(Request {
+        account,
+        series,
+        quantity,
+        pending: true,
+    })
 }
 
 // Whether there is such a request, not rejected yet.
 fn has_pending(book: &Ledger, n: u32) -> bool
     ensures { result ≡ has_pending book.now.state n }
 {
-    is_within(n, 1, book.state.requests.count) && book.state.requests.rows[n as usize - 1].pending
+    book.state.requests.has(n) && book.state.requests.rows[n as usize - 1].pending
 }
 
 // Why a request's rejection is turned back, if it is.
