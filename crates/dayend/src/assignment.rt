@@ -1,5 +1,5 @@
 ghost use Rattle.std.specs.Prelude.{◌≡◌, ℕ, ◌<◌, ◌≤◌, length, sum_by, slice_index_or};
-ghost use Rattle.draws.specs.Checks.{first_refusal};
+ghost use Rattle.draws.specs.Checks.{checked};
 ghost use Rattle.settlement.specs.Assignment.{total_due, draws_for};
 ghost use Rattle.ledger.specs.declared.state.Stage.TheVariants.{Cut};
 ghost use Rattle.ledger.specs.Tables.{past_series};
@@ -100,17 +100,17 @@ fn needed(book: &State) -> u32
     draws_needed(&book.series.rows, book.terms.block)
 }
 
-// Why an assignment is turned back, if it is.
-pub fn refuse_assignment<S: Draws>(book: &State, source: &S) -> Option<Refusal>
+// Whether the source has draws enough for an assignment, or why it is turned back.
+pub fn check_assignment<S: Draws>(book: &State, source: &S) -> Result<(), Refusal>
     requires sound { Facts book.now }
     requires cut { book.now.stage ≡ Cut }
-    ensures { result ≡ first_refusal (assignment_checks book.now (S.meaning source.now)) }
+    ensures { result ≡ checked (assignment_checks book.now (S.meaning source.now)) }
 {
     let needed = needed(book);
     if source.supply() < u64::from(needed) {
-        return Some(Refusal::DrawsShort(needed));
+        return Err(Refusal::DrawsShort(needed));
     }
-    None
+    Ok(())
 }
 
 // Exercises what is due and assigns it, series by series, and answers the draws used.

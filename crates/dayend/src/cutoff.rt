@@ -1,5 +1,5 @@
 ghost use Rattle.std.specs.Prelude.{◌≡◌, ℕ, ◌+◌, ◌<◌, ◌≤◌, length, slice_index, slice_index_or};
-ghost use Rattle.draws.specs.Checks.{first_refusal};
+ghost use Rattle.draws.specs.Checks.{checked};
 ghost use Rattle.positions.specs.Places.{each};
 ghost use Rattle.ledger.specs.Tables.{no_request, cells_of, with_listing, with_cells};
 ghost use Rattle.dayend.specs.Cutoff.{any_expiring, cut_checks, asks, asked, AsksAt, automatic, cut_cell, cut_cells, cut_series, cut_legs, cut};
@@ -61,15 +61,15 @@ fn any_expiring(book: &State) -> bool
     false
 }
 
-// Why the cut is turned back, if it is.
-pub fn refuse_cut(book: &State) -> Option<Refusal>
+// Whether the book may be cut, or why it is turned back.
+pub fn check_cut(book: &State) -> Result<(), Refusal>
     requires { Facts book.now }
-    ensures { result ≡ first_refusal (cut_checks book.now) }
+    ensures { result ≡ checked (cut_checks book.now) }
 {
-    if any_expiring(book) && !book.fixing.is_some() {
-        return Some(Refusal::NoFixingPrice);
+    if any_expiring(book) && book.fixing.is_none() {
+        return Err(Refusal::NoFixingPrice);
     }
-    None
+    Ok(())
 }
 
 // Whether the account's longs in the series are exercised without a request.

@@ -1,5 +1,5 @@
 ghost use Rattle.std.specs.Prelude.{◌≡◌};
-ghost use Rattle.draws.specs.Checks.{first_refusal};
+ghost use Rattle.draws.specs.Checks.{checked};
 ghost use Rattle.positions.specs.Places.{each};
 ghost use Rattle.dayend.specs.NextDay.{next_day_checks, carried_cells, carried_series, next_day};
 
@@ -24,17 +24,17 @@ fn carry_rows(rows: &mut [Series; 32])
     }
 }
 
-// Why the next day is turned back, if it is.
-pub fn refuse_next_day(book: &State, day: u32) -> Option<Refusal>
-    ensures { result ≡ first_refusal (next_day_checks book.now day) }
+// Whether the day may be the next one, or why it is turned back.
+pub fn check_next_day(book: &State, day: u32) -> Result<(), Refusal>
+    ensures { result ≡ checked (next_day_checks book.now day) }
 {
     if !is_within(day, 1, 99_999) {
-        return Some(Refusal::OutOfRange);
+        return Err(Refusal::OutOfRange);
     }
     if day <= book.day {
-        return Some(Refusal::DayNotLater);
+        return Err(Refusal::DayNotLater);
     }
-    None
+    Ok(())
 }
 
 // Begins the day: positions, accounts and series are carried over, the rest starts anew.

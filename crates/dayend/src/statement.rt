@@ -1,5 +1,5 @@
 ghost use Rattle.std.specs.Prelude.{◌≡◌, ℕ, ◌+◌, ◌<◌, ◌≤◌, length, get_or, slice_index_or};
-ghost use Rattle.draws.specs.Checks.{first_refusal};
+ghost use Rattle.draws.specs.Checks.{checked};
 ghost use Rattle.positions.specs.Cells.{no_cell};
 ghost use Rattle.settlement.specs.Lines.{Countable, written};
 ghost use Rattle.ledger.specs.Tables.{past_series};
@@ -55,16 +55,16 @@ fn write_lines(lines: &mut [Line], rows: &[Series; 32], size: u32, day: u32) -> 
     next
 }
 
-// Why a statement is turned back, if it is.
-pub fn refuse_statement(book: &State, room: usize) -> Option<Refusal>
+// Whether a statement has places enough, or why it is turned back.
+pub fn check_statement(book: &State, room: usize) -> Result<(), Refusal>
     requires { Facts book.now }
-    ensures { result ≡ first_refusal (statement_checks book.now room) }
+    ensures { result ≡ checked (statement_checks book.now room) }
 {
     let needed = count_lines(&book.series.rows);
     if needed > room {
-        return Some(Refusal::StatementShort(needed as u32));
+        return Err(Refusal::StatementShort(needed as u32));
     }
-    None
+    Ok(())
 }
 
 // Writes the statement from the first place on, and answers how many lines it has.
