@@ -100,7 +100,7 @@ fn needed(book: &State) -> u32
     draws_needed(&book.series.rows, book.terms.block)
 }
 
-// Whether the source has draws enough for an assignment, or why it is turned back.
+// Why an assignment is turned back, if it is.
 pub fn check_assignment<S: Draws>(book: &State, source: &S) -> Result<(), Refusal>
     requires sound { Facts book.now }
     requires cut { book.now.stage ≡ Cut }

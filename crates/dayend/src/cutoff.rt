@@ -61,7 +61,7 @@ fn any_expiring(book: &State) -> bool
     false
 }
 
-// Whether the book may be cut, or why it is turned back.
+// Why the cut is turned back, if it is.
 pub fn check_cut(book: &State) -> Result<(), Refusal>
     requires { Facts book.now }
     ensures { result ≡ checked (cut_checks book.now) }

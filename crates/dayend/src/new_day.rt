@@ -24,7 +24,7 @@ fn carry_rows(rows: &mut [Series; 32])
     }
 }
 
-// Whether the day may be the next one, or why it is turned back.
+// Why the next day is turned back, if it is.
 pub fn check_next_day(book: &State, day: u32) -> Result<(), Refusal>
     ensures { result ≡ checked (next_day_checks book.now day) }
 {

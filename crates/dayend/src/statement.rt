@@ -55,7 +55,7 @@ fn write_lines(lines: &mut [Line], rows: &[Series; 32], size: u32, day: u32) -> 
     next
 }
 
-// Whether a statement has places enough, or why it is turned back.
+// Why a statement is turned back, if it is.
 pub fn check_statement(book: &State, room: usize) -> Result<(), Refusal>
     requires { Facts book.now }
     ensures { result ≡ checked (statement_checks book.now room) }
