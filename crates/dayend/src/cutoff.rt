@@ -6,7 +6,7 @@ ghost use Rattle.dayend.specs.Cutoff.{any_expiring, cut_checks, asks, asked, Ask
 ghost use Rattle.ledger.specs.Sound.{AllAsked, Facts};
 
 use exercise::criterion;
-use ledger::{Refusal, Request, Requests, Stage, State};
+use ledger::{Ledger, Refusal, Request, Requests, Stage, State};
 use positions::{Cell, Leg, LegEvent};
 
 // The place of the account that a pending request in the series asks for.
@@ -62,11 +62,10 @@ fn any_expiring(book: &State) -> bool
 }
 
 // Why the cut is turned back, if it is.
-pub fn check_cut(book: &State) -> Result<(), Refusal>
-    requires { Facts book.now }
-    ensures { result ≡ checked (cut_checks book.now) }
+pub fn check_cut(book: &Ledger) -> Result<(), Refusal>
+    ensures { result ≡ checked (cut_checks book.now.state) }
 {
-    if any_expiring(book) && book.fixing.is_none() {
+    if any_expiring(&book.state) && book.state.fixing.is_none() {
         return Err(Refusal::NoFixingPrice);
     }
     Ok(())
@@ -105,13 +104,12 @@ fn cut_cell(book: &State, series: u32, account: u32, wanted: u32, cell: &Cell) -
 }
 
 // Nets the positions, sets what is due, and frees held legs.
-pub fn cut(book: &mut State)
-    requires { Facts book.old }
-    ensures { book.new ≡ cut book.old }
+pub fn cut(book: &mut Ledger)
+    ensures { book.new.state ≡ cut book.old.state }
 {
-    cut_rows(book);
-    cut_legs(&mut book.legs.rows);
-    book.stage = Stage::Cut;
+    cut_rows(&mut book.state);
+    cut_legs(&mut book.state.legs.rows);
+    book.state.stage = Stage::Cut;
 }
 
 // The series at a place. The cut leaves a cell with neither longs nor contracts due as it is.
