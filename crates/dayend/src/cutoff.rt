@@ -146,7 +146,7 @@ fn cut_rows(book: &mut State)
 fn cut_legs(legs: &mut [Leg; 256])
     ensures { legs.new ≡ cut_legs legs.old }
 {
-    for i in 0..256usize {
-        legs[i].step(LegEvent::Cut);
+    for leg in legs.iter_mut() {
+        leg.step(LegEvent::Cut);
     }
 }

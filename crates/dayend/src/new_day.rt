@@ -10,17 +10,16 @@ use positions::{Cell, Leg};
 fn carry_cells(cells: &mut [Cell; 32])
     ensures { cells.new ≡ carried_cells cells.old }
 {
-    for a in 0..32usize {
-        let cell = cells[a];
-        cells[a] = cell.carried();
+    for cell in cells.iter_mut() {
+        *cell = cell.carried();
     }
 }
 
 fn carry_rows(rows: &mut [Series; 32])
     ensures { rows.new ≡ each (λ _ r. carried_series r) rows.old }
 {
-    for i in 0..32usize {
-        carry_cells(&mut rows[i].cells);
+    for row in rows.iter_mut() {
+        carry_cells(&mut row.cells);
     }
 }
 
