@@ -10,18 +10,6 @@ use draws::Draws;
 use ledger::{Account, Ledger, Refusal, Series, Stage, Terms};
 use settlement::{assign_series, draws_for_series};
 
-// The draws that all series need.
-fn draws_needed(rows: &[Series; 32], block: u32) -> u32
-    requires { (1 ≤ block) × ((block ≤ 1_000) × ((i : ℕ) → i < length rows.now → total_due (slice_index_or rows.now i past_series).cells ≤ 100_000)) }
-    ensures { result ≡ sum_by (λ r. draws_for r.cells block) rows.now }
-{
-    let mut all = 0;
-    for row in rows {
-        all += draws_for_series(&row.cells, block);
-    }
-    all
-}
-
 // Whether the series expires on the day.
 fn expires(row: &Series, previous: u32, day: u32) -> bool
     ensures { result ≡ expires previous day row.now }
@@ -95,7 +83,11 @@ fn needed(book: &Ledger) -> u32
     requires { book.now.state.stage ≡ Cut }
     ensures { result ≡ needed book.now.state }
 {
-    draws_needed(&book.state.series.rows, book.state.terms.block)
+    let block = book.state.terms.block;
+    let rows = &book.state.series.rows;
+    rows.iter()
+        .map(|row| draws_for_series(&row.cells, block))
+        .sum()
 }
 
 // Why an assignment is turned back, if it is.
