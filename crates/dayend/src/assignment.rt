@@ -9,6 +9,7 @@ ghost use Rattle.dayend.specs.Assignment.{needed, assignment_checks, expires, Ro
 use draws::Draws;
 use ledger::{Account, Ledger, Refusal, Series, Stage, Terms};
 use settlement::{assign_series, draws_for_series};
+use std::array;
 
 // Whether the series expires on the day.
 fn expires(row: &Series, previous: u32, day: u32) -> bool
@@ -31,14 +32,13 @@ fn assign_rows<S: Draws>(
     ensures collateral { collateral.new ≡ (assigned_rows terms.now previous day (S.meaning source.old) collateral.old rows.old).collateral }
     ensures source { S.meaning source.new ≡ (assigned_rows terms.now previous day (S.meaning source.old) collateral.old rows.old).source }
 {
-    for i in 0..32 {
-        let lapses = expires(&rows[i], previous, day);
-        let right = rows[i].contract.right;
+    for row in rows.iter_mut() {
+        let lapses = expires(row, previous, day);
         assign_series(
             source,
-            &mut rows[i].cells,
+            &mut row.cells,
             collateral,
-            right,
+            row.contract.right,
             terms.size,
             terms.block,
             lapses,
@@ -46,35 +46,19 @@ fn assign_rows<S: Draws>(
     }
 }
 
-// The account with other collateral.
-fn with_collateral(account: &Account, shares: u32) -> Account
-    ensures { result ≡ with_collateral account.now shares }
-{
-    Account {
-        participant: account.participant,
-        account_type: account.account_type,
-        collateral: shares,
-        calls: account.calls,
-        puts: account.puts,
-    }
-}
-
 // The collateral of each account.
-fn list_collateral(accounts: &[Account; 32], shares: &mut [u32; 32])
-    ensures { shares.new ≡ lodged_shares accounts.now }
+fn lodged_shares(accounts: &[Account; 32]) -> [u32; 32]
+    ensures { result ≡ lodged_shares accounts.now }
 {
-    for i in 0..32 {
-        shares[i] = accounts[i].collateral;
-    }
+    array::from_fn(|i| accounts[i].collateral)
 }
 
 // Gives each account its collateral.
 fn put_collateral(accounts: &mut [Account; 32], shares: &[u32; 32])
     ensures { accounts.new ≡ with_shares accounts.old shares.now }
 {
-    for i in 0..32 {
-        let account = accounts[i];
-        accounts[i] = with_collateral(&account, shares[i]);
+    for (i, account) in accounts.iter_mut().enumerate() {
+        account.collateral = shares[i];
     }
 }
 
@@ -111,8 +95,7 @@ pub fn assign<S: Draws>(book: &mut Ledger, source: &mut S) -> u32
     ensures source { S.meaning source.new ≡ (assigning book.old.state (S.meaning source.old)).source }
 {
     let used = needed(book);
-    let mut shares = [0; 32];
-    list_collateral(&book.state.accounts.rows, &mut shares);
+    let mut shares = lodged_shares(&book.state.accounts.rows);
     let terms = book.state.terms;
     assign_rows(
         source,

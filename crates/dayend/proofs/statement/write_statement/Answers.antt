@@ -32,8 +32,7 @@ loop-i-preserved c =
     let rows = s.series.rows in
     let i = c.loop-i.i in
     let most = lines_length_le size s.day rows (i + 1) (omega (arith, (facts s c.args.book.now.sound).tables.1.1)) in
-    let after = c.write_series-next.ensures.after ∙ ap (λ (t : SeriesTerms). written c.loop-i.lines c.loop-i.next (series_lines t (get_or rows i past_series).cells)) c.terms_of-terms.ensures in
-    (
+    let after = c.write_series-next.ensures.after ∙ ap (λ (t : SeriesTerms). written c.loop-i.lines c.loop-i.next (series_lines t (get_or rows i past_series).cells)) c.terms_of-terms.ensures in (
       omega (arith, length_next size s.day rows i, c.write_series-next.ensures.place, c.loop-i.invariant.0),
       after ∙ written_next c.args.lines.now 0 (first_lines i size s.day rows) (lines_at size s.day rows i) c.loop-i.lines c.loop-i.next (first_lines (i + 1) size s.day rows) c.loop-i.invariant.1 (omega (arith, c.loop-i.invariant.0)) (lines_more size s.day rows i) (omega (arith, most, c.requires)),
     )
