@@ -7,11 +7,10 @@ use Rattle.positions.specs.declared.cell.Cell.{Cell}
 use Rattle.positions.specs.Cells.{no_cell, with_denied}
 use Rattle.positions.proofs.RowLaws.{at_set, sum_kept}
 use Rattle.ledger.specs.declared.state.Request.{Request}
-use Rattle.ledger.specs.declared.state.Requests.{Requests}
 use Rattle.ledger.specs.declared.state.Stage.{Stage}
 use Rattle.ledger.specs.declared.state.Stage.TheVariants.{Input, Cut, Assigned}
 use Rattle.ledger.specs.declared.state.State.{State}
-use Rattle.ledger.specs.Tables.{cells_of, no_request}
+use Rattle.ledger.specs.Tables.{Requests, cells_of, no_request}
 use Rattle.ledger.specs.Lookups.{within, has_account, has_series, expiring}
 use Rattle.exercise.specs.Requests.{with_requests, request_of, request_checks, new_request, request_added, rejection_checks, request_rejected, denial_checks, denial_noted}
 use Rattle.ledger.specs.Sound.{Balanced, Waiting, Facts}

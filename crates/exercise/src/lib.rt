@@ -9,6 +9,5 @@ pub use criteria::{
     refuse_withdrawal, set_criterion, withdraw,
 };
 pub use requests::{
-    add_request, deny, push_request, refuse_denial, refuse_rejection, refuse_request,
-    reject_request,
+    add_request, deny, refuse_denial, refuse_rejection, refuse_request, reject_request,
 };

@@ -1,21 +1,10 @@
 ghost use Rattle.std.specs.Prelude.{◌≡◌, ◌+◌, ◌<◌, ◌≤◌, true};
 ghost use Rattle.draws.specs.Checks.{first_refusal};
 ghost use Rattle.ledger.specs.Lookups.{has_account, has_series};
-ghost use Rattle.exercise.specs.Requests.{request_checks, one_request_more, request_added, has_pending, rejection_checks, request_rejected, denial_checks, denial_noted};
+ghost use Rattle.exercise.specs.Requests.{request_checks, request_added, has_pending, rejection_checks, request_rejected, denial_checks, denial_noted};
 ghost use Rattle.ledger.specs.Sound.{Facts};
 
-use ledger::{Refusal, Request, Requests, State, is_within};
-
-// One request more; its number.
-pub fn push_request(requests: &mut Requests, request: Request) -> u32
-    requires { requests.old.count < 128 }
-    ensures number { result ≡ requests.old.count + 1 }
-    ensures after { requests.new ≡ one_request_more requests.old request }
-{
-    requests.rows[requests.count as usize] = request;
-    requests.count += 1;
-    requests.count
-}
+use ledger::{Refusal, Request, State, is_within};
 
 // Why an exercise request is turned back, if it is.
 pub fn refuse_request(book: &State, account: u32, series: u32, quantity: u32) -> Option<Refusal>
@@ -46,15 +35,12 @@ pub fn add_request(book: &mut State, account: u32, series: u32, quantity: u32) -
     ensures number { result ≡ book.old.requests.count + 1 }
     ensures after { book.new ≡ request_added book.old account series quantity }
 {
-    push_request(
-        &mut book.requests,
-        Request {
-            account,
-            series,
-            quantity,
-            pending: true,
-        },
-    )
+    book.requests.push(Request {
+        account,
+        series,
+        quantity,
+        pending: true,
+    })
 }
 
 // Whether there is such a request, not rejected yet.

@@ -4,7 +4,7 @@ ghost use Rattle.positions.specs.Cells.{no_cell, with_sides, on_side, closing, b
 use crate::kinds::{AccountType, Effect, Side};
 
 // One account's contracts in one series.
-#[derive(Clone, Copy)]
+#[derive(Clone, Copy, Debug, PartialEq, Eq)]
 pub struct Cell {
     pub longs: u32,
     pub shorts: u32,

@@ -5,7 +5,7 @@ use crate::kinds::Right;
 
 // How far in the money a series must be to be exercised at its expiry without a request: by hundredths of a percent of
 // the strike, or by an amount.
-#[derive(Clone, Copy)]
+#[derive(Clone, Copy, Debug, PartialEq, Eq)]
 pub enum Criterion {
     Percent(u32),
     Amount(u32),

@@ -6,14 +6,14 @@ use crate::cell::Cell;
 use crate::kinds::{Effect, Side};
 
 // A leg is free, or held for a participant that may take it up.
-#[derive(Clone, Copy)]
+#[derive(Clone, Copy, Debug, PartialEq, Eq)]
 pub enum LegState {
     Free,
     Held(u32),
 }
 
 // What befalls a leg's state.
-#[derive(Clone, Copy)]
+#[derive(Clone, Copy, Debug, PartialEq, Eq)]
 pub enum LegEvent {
     GiveUp(u32),
     Confirm,
@@ -22,7 +22,7 @@ pub enum LegEvent {
 }
 
 // One side of a trade, in one account.
-#[derive(Clone, Copy)]
+#[derive(Clone, Copy, Debug, PartialEq, Eq)]
 pub struct Leg {
     pub account: u32,
     pub series: u32,
