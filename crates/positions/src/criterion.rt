@@ -16,6 +16,7 @@ impl Criterion {
     pub fn of_form(form: u32, value: u32) -> Criterion
         ensures { result ≡ criterion_of_form form value }
     {
+        // Kept: the form is a number of the archive's lines, which stands beside its value there.
         if form == 1 {
             Criterion::Percent(value)
         } else {

@@ -148,9 +148,6 @@ impl AccountType {
     pub fn is_net(self) -> bool
         ensures { result ≡ is_net self }
     {
-        match self {
-            AccountType::OmnibusClient => false,
-            _ => true,
-        }
+        self != AccountType::OmnibusClient
     }
 }
