@@ -12,7 +12,7 @@ use settlement::{assign_series, draws_for_series};
 use std::array;
 
 // Whether the series expires on the day.
-fn expires(row: &Series, previous: u32, day: u32) -> bool
+pub(crate) fn expires(row: &Series, previous: u32, day: u32) -> bool
     ensures { result ≡ expires previous day row.now }
 {
     previous < row.contract.expiry && row.contract.expiry <= day

@@ -1,4 +1,4 @@
-use Rattle.std.proofs.Common.{get_or, ap, ◌∙◌, arith}
+use Rattle.std.proofs.Common.{get_or, ap, arith}
 use Rattle.settlement.proofs.Filling.{filled_none, filled_more, filled_all}
 use Rattle.ledger.specs.declared.state.Account.{Account}
 use Rattle.exercise.specs.Criteria.{with_collateral}

@@ -1,7 +1,7 @@
 use Rattle.std.proofs.Common.{◌≡◌, ◌+◌, ◌≤◌, length, get_or, sym, ap, ◌∙◌, subst, arith}
 use Rattle.settlement.specs.declared.line.SeriesTerms.{SeriesTerms}
 use Rattle.settlement.specs.Lines.{series_lines, written}
-use Rattle.settlement.proofs.Written.{written_none, written_next}
+use Rattle.settlement.proofs.Written.{written_next}
 use Rattle.ledger.specs.Tables.{past_series}
 use Rattle.ledger.proofs.FactLaws.{facts}
 use Rattle.dayend.specs.Statement.{lines_at, first_lines, places_needed}
