@@ -9,21 +9,10 @@ ghost use Rattle.dayend.specs.Assignment.{needed, assignment_checks, expires, Ro
 use draws::Draws;
 use ledger::{Account, Ledger, Refusal, Series, Stage, Terms};
 use settlement::{assign_series, draws_for_series};
-
-// The draws that all series need.
-fn draws_needed(rows: &[Series; 32], block: u32) -> u32
-    requires { (1 ≤ block) × ((block ≤ 1_000) × ((i : ℕ) → i < length rows.now → total_due (slice_index_or rows.now i past_series).cells ≤ 100_000)) }
-    ensures { result ≡ sum_by (λ r. draws_for r.cells block) rows.now }
-{
-    let mut all = 0;
-    for row in rows {
-        all += draws_for_series(&row.cells, block);
-    }
-    all
-}
+use std::array;
 
 // Whether the series expires on the day.
-fn expires(row: &Series, previous: u32, day: u32) -> bool
+pub(crate) fn expires(row: &Series, previous: u32, day: u32) -> bool
     ensures { result ≡ expires previous day row.now }
 {
     previous < row.contract.expiry && row.contract.expiry <= day
@@ -43,14 +32,13 @@ fn assign_rows<S: Draws>(
     ensures collateral { collateral.new ≡ (assigned_rows terms.now previous day (S.meaning source.old) collateral.old rows.old).collateral }
     ensures source { S.meaning source.new ≡ (assigned_rows terms.now previous day (S.meaning source.old) collateral.old rows.old).source }
 {
-    for i in 0..32 {
-        let lapses = expires(&rows[i], previous, day);
-        let right = rows[i].contract.right;
+    for row in rows.iter_mut() {
+        let lapses = expires(row, previous, day);
         assign_series(
             source,
-            &mut rows[i].cells,
+            &mut row.cells,
             collateral,
-            right,
+            row.contract.right,
             terms.size,
             terms.block,
             lapses,
@@ -58,35 +46,19 @@ fn assign_rows<S: Draws>(
     }
 }
 
-// The account with other collateral.
-fn with_collateral(account: &Account, shares: u32) -> Account
-    ensures { result ≡ with_collateral account.now shares }
-{
-    Account {
-        participant: account.participant,
-        account_type: account.account_type,
-        collateral: shares,
-        calls: account.calls,
-        puts: account.puts,
-    }
-}
-
 // The collateral of each account.
-fn list_collateral(accounts: &[Account; 32], shares: &mut [u32; 32])
-    ensures { shares.new ≡ lodged_shares accounts.now }
+fn lodged_shares(accounts: &[Account; 32]) -> [u32; 32]
+    ensures { result ≡ lodged_shares accounts.now }
 {
-    for i in 0..32 {
-        shares[i] = accounts[i].collateral;
-    }
+    array::from_fn(|i| accounts[i].collateral)
 }
 
 // Gives each account its collateral.
 fn put_collateral(accounts: &mut [Account; 32], shares: &[u32; 32])
     ensures { accounts.new ≡ with_shares accounts.old shares.now }
 {
-    for i in 0..32 {
-        let account = accounts[i];
-        accounts[i] = with_collateral(&account, shares[i]);
+    for (i, account) in accounts.iter_mut().enumerate() {
+        account.collateral = shares[i];
     }
 }
 
@@ -95,7 +67,11 @@ fn needed(book: &Ledger) -> u32
     requires { book.now.state.stage ≡ Cut }
     ensures { result ≡ needed book.now.state }
 {
-    draws_needed(&book.state.series.rows, book.state.terms.block)
+    let block = book.state.terms.block;
+    let rows = &book.state.series.rows;
+    rows.iter()
+        .map(|row| draws_for_series(&row.cells, block))
+        .sum()
 }
 
 // Why an assignment is turned back, if it is.
@@ -119,8 +95,7 @@ pub fn assign<S: Draws>(book: &mut Ledger, source: &mut S) -> u32
     ensures source { S.meaning source.new ≡ (assigning book.old.state (S.meaning source.old)).source }
 {
     let used = needed(book);
-    let mut shares = [0; 32];
-    list_collateral(&book.state.accounts.rows, &mut shares);
+    let mut shares = lodged_shares(&book.state.accounts.rows);
     let terms = book.state.terms;
     assign_rows(
         source,
