@@ -8,7 +8,7 @@ ghost use Rattle.dayend.specs.Assignment.{needed, assignment_checks, expires, Ro
 
 use draws::Draws;
 use ledger::{Account, Ledger, Refusal, Series, Stage, Terms};
-use settlement::{assign_series, draws_for_series};
+use settlement::{AssignmentTerms, assign_series, draws_for_series};
 use std::array;
 
 // Whether the series expires on the day.
@@ -34,15 +34,13 @@ fn assign_rows<S: Draws>(
 {
     for row in rows.iter_mut() {
         let lapses = expires(row, previous, day);
-        assign_series(
-            source,
-            &mut row.cells,
-            collateral,
-            row.contract.right,
-            terms.size,
-            terms.block,
+        let terms = AssignmentTerms {
+            right: row.contract.right,
+            size: terms.size,
+            block: terms.block,
             lapses,
-        );
+        };
+        assign_series(source, &mut row.cells, collateral, &terms);
     }
 }
 

@@ -4,21 +4,21 @@ ghost use Rattle.settlement.specs.Lines.{role_code, method_code, takes, line};
 use positions::Right;
 
 // What a line's contracts were: exercised, or assigned.
-#[derive(Clone, Copy)]
+#[derive(Clone, Copy, Debug, PartialEq, Eq)]
 pub enum Role {
     Exerciser,
     Assignee,
 }
 
 // How they are settled: covered by shares lodged, or otherwise.
-#[derive(Clone, Copy)]
+#[derive(Clone, Copy, Debug, PartialEq, Eq)]
 pub enum Method {
     Covered,
     Other,
 }
 
 // One line of the statement.
-#[derive(Clone, Copy)]
+#[derive(Clone, Copy, Debug, PartialEq, Eq)]
 pub struct Line {
     pub series: u32,
     pub account: u32,
@@ -33,7 +33,7 @@ pub struct Line {
 }
 
 // What the lines of one series share.
-#[derive(Clone, Copy)]
+#[derive(Clone, Copy, Debug, PartialEq, Eq)]
 pub struct SeriesTerms {
     pub series: u32,
     pub right: Right,
@@ -42,22 +42,22 @@ pub struct SeriesTerms {
     pub settlement_day: u32,
 }
 
-impl Role {
-    pub fn code(self) -> u32
-        ensures { result ≡ role_code self }
-    {
-        match self {
+impl From<Role> for u64 {
+    ghost from_gives = { λ role code. code ≡ role_code role };
+
+    fn from(role: Role) -> u64 {
+        match role {
             Role::Exerciser => 1,
             Role::Assignee => 2,
         }
     }
 }
 
-impl Method {
-    pub fn code(self) -> u32
-        ensures { result ≡ method_code self }
-    {
-        match self {
+impl From<Method> for u64 {
+    ghost from_gives = { λ method code. code ≡ method_code method };
+
+    fn from(method: Method) -> u64 {
+        match method {
             Method::Covered => 1,
             Method::Other => 2,
         }
@@ -78,12 +78,10 @@ impl SeriesTerms {
     fn takes(&self, role: Role) -> bool
         ensures { result ≡ takes self.now.right role }
     {
-        match (self.right, role) {
-            (Right::Call, Role::Exerciser) => true,
-            (Right::Call, Role::Assignee) => false,
-            (Right::Put, Role::Exerciser) => false,
-            (Right::Put, Role::Assignee) => true,
-        }
+        matches!(
+            (self.right, role),
+            (Right::Call, Role::Exerciser) | (Right::Put, Role::Assignee)
+        )
     }
 
     // The shares of so many contracts.

@@ -71,8 +71,8 @@ pub fn write_series(lines: &mut [Line], at: usize, terms: &SeriesTerms, cells: &
     ensures after { lines.new ≡ written lines.old at (series_lines terms.now cells.now) }
 {
     let mut next = at;
-    for i in 0..32 {
-        next = write_account(lines, next, terms, i as u32 + 1, &cells[i]);
+    for (i, cell) in cells.iter().enumerate() {
+        next = write_account(lines, next, terms, i as u32 + 1, cell);
     }
     next
 }
@@ -80,25 +80,20 @@ pub fn write_series(lines: &mut [Line], at: usize, terms: &SeriesTerms, cells: &
 fn count_any(contracts: u32) -> usize
     ensures { result ≡ one_if_any contracts }
 {
-    if contracts == 0 { 0 } else { 1 }
+    usize::from(contracts > 0)
 }
 
 // How many lines one account has.
 fn count_account(cell: &Cell) -> usize
-    requires { cell.now.covered ≤ cell.now.assigned }
     ensures { result ≡ line_count cell.now }
 {
-    count_any(cell.exercised) + count_any(cell.covered) + count_any(cell.assigned - cell.covered)
+    let uncovered = cell.assigned.saturating_sub(cell.covered);
+    count_any(cell.exercised) + count_any(cell.covered) + count_any(uncovered)
 }
 
 // How many lines a series has.
 pub fn count_series(cells: &[Cell; 32]) -> usize
-    requires { (j : ℕ) → (get_or cells.now j no_cell).covered ≤ (get_or cells.now j no_cell).assigned }
     ensures { result ≡ lines_needed cells.now }
 {
-    let mut all = 0;
-    for cell in cells {
-        all += count_account(cell);
-    }
-    all
+    cells.iter().map(count_account).sum()
 }

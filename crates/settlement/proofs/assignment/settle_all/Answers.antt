@@ -19,7 +19,7 @@ end_day-requires c =
 pub shares_left-requires : goal.shares_left-requires
 shares_left-requires c =
     let i = c.loop-i.i in
-    subst (λ (v : ℕ). v * c.args.size ≤ get_or c.loop-i.collateral i 0) (sym c.covered_by-covered.ensures) (covering_delivers c.args.right c.args.size (get_or c.loop-i.collateral i 0) (get_or c.args.assigned.now i 0))
+    subst (λ (v : ℕ). v * c.args.terms.now.size ≤ get_or c.loop-i.collateral i 0) (sym c.covered_by-covered.ensures) (covering_delivers c.args.terms.now.right c.args.terms.now.size (get_or c.loop-i.collateral i 0) (get_or c.args.assigned.now i 0))
 
 pub loop-i-preserved : goal.loop-i-preserved
 loop-i-preserved c =
@@ -27,18 +27,18 @@ loop-i-preserved c =
     let assigned = get_or c.args.assigned.now i 0 in
     let cell = c.loop-i.invariant.0.rest i (omega arith) in
     let shares = c.loop-i.invariant.1.rest i (omega arith) in
-    let covered = c.covered_by-covered.ensures ∙ ap (λ (s : ℕ). covering c.args.right c.args.size s assigned) shares in (
+    let covered = c.covered_by-covered.ensures ∙ ap (λ (s : ℕ). covering c.args.terms.now.right c.args.terms.now.size s assigned) shares in (
       filled_more _ _ _ c.loop-i.cells i c.end_day.result c.loop-i.invariant.0 (omega (arith, c.told-cells))
           (c.end_day.ensures
-          ∙ ap (λ (x : Cell). at_end c.args.lapses (settled x assigned c.covered_by-covered.result)) cell
-          ∙ ap (λ (v : ℕ). at_end c.args.lapses (settled (get_or c.args.cells.now i no_cell) assigned v)) covered),
+          ∙ ap (λ (x : Cell). at_end c.args.terms.now.lapses (settled x assigned c.covered_by-covered.result)) cell
+          ∙ ap (λ (v : ℕ). at_end c.args.terms.now.lapses (settled (get_or c.args.cells.now i no_cell) assigned v)) covered),
       filled_more _ _ _ c.loop-i.collateral i c.shares_left.result c.loop-i.invariant.1 (omega (arith, c.told-collateral))
-          (c.shares_left.ensures ∙ ap (λ (s : ℕ). s - c.covered_by-covered.result * c.args.size) shares ∙ ap (λ (v : ℕ). get_or c.args.collateral.now i 0 - v * c.args.size) covered),
+          (c.shares_left.ensures ∙ ap (λ (s : ℕ). s - c.covered_by-covered.result * c.args.terms.now.size) shares ∙ ap (λ (v : ℕ). get_or c.args.collateral.now i 0 - v * c.args.terms.now.size) covered),
     )
 
 pub returns : goal.returns
 returns c =
-    let f : ℕ → ℕ = collateral_after c.args.right c.args.size c.args.collateral.now c.args.assigned.now in
+    let f : ℕ → ℕ = collateral_after c.args.terms.now.right c.args.terms.now.size c.args.collateral.now c.args.assigned.now in
     let same : length c.args.collateral.now ≡ length c.args.cells.now = omega (arith, c.told-collateral, c.told-cells) in
     record {
       cells = filled_all _ _ _ c.loop-i.cells c.loop-i.i c.loop-i.invariant.0 (omega (arith, c.told-cells));
