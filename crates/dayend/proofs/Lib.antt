@@ -1,3 +1,4 @@
+pub mod Made
 pub mod CutSteps
 pub mod CutLaws
 pub mod AssignLaws

@@ -13,12 +13,12 @@ use Rattle.ledger.specs.declared.state.State.{State}
 use Rattle.ledger.specs.declared.state.Stage.{Stage}
 use Rattle.ledger.specs.declared.state.Stage.TheVariants.{Input, Cut, Assigned}
 use Rattle.ledger.specs.Tables.{past_series, cells_of}
-use Rattle.dayend.specs.Statement.{terms_at, lines_at, first_lines, rows_needed}
+use Rattle.dayend.specs.Statement.{terms_at, lines_at, first_lines, rows_needed, places_needed}
 use Rattle.ledger.specs.Sound.{Facts, Waiting}
 
 -- ── counts that a line can hold ──
 
-covered_of : (g : Stage) (c : Cell) → Waiting g c → c.covered ≤ c.assigned
+pub covered_of : (g : Stage) (c : Cell) → Waiting g c → c.covered ≤ c.assigned
 covered_of Input c w = w.1
 covered_of Cut c w = w.1
 covered_of Assigned c w = w.1
@@ -55,6 +55,9 @@ rows_few [] h = omega arith
 rows_few (r ∷ rs) h =
     omega (arith, sum_by-cons (λ (r : Series). lines_needed r.cells) r rs, lines_few r.cells (omega (arith, h 0 (omega arith))), rows_few rs (λ i l. h (suc i) (omega arith)))
 
+pub places_few : (s : State) → Facts s → places_needed s ≤ 3_072
+places_few s f = omega (arith, rows_few s.series.rows (λ i l. (f.balanced i (omega (arith, f.tables.1.1))).0), f.tables.1.1)
+
 counting_more : (n : ℕ) → range_with_len 0 (n + 1) ≡ range_with_len 0 n ++ n ∷ []
 counting_more n = sym (map-id (range_with_len 0 (n + 1))) ∙ map-range_with_len_more (λ x. x) 0 n n (omega arith) ∙ ap (λ l. l ++ n ∷ []) (map-id (range_with_len 0 n))
 
@@ -62,11 +65,15 @@ module _ (size day : ℕ) (rows : List Series) where
   pub lines_more : (n : ℕ) → first_lines n size day rows ++ lines_at size day rows n ≡ first_lines (n + 1) size day rows
   lines_more n = flat_map_more (lines_at size day rows) [] (range_with_len 0 n) n ∙ ap (flat_map (lines_at size day rows)) (sym (counting_more n))
 
+  pub length_next : (n : ℕ) → length (first_lines (n + 1) size day rows) ≡ length (first_lines n size day rows) + lines_needed (get_or rows n past_series).cells
+  length_next n =
+      omega (arith, ap length (lines_more n), length-append (first_lines n size day rows) (lines_at size day rows n), length_series (terms_at size day rows n) (get_or rows n past_series).cells)
+
   pub lines_length : (n : ℕ) → n ≤ length rows → length (first_lines n size day rows) ≡ rows_needed (take n rows)
   lines_length zero h = refl
   lines_length (suc n) h =
       let go : length (first_lines (n + 1) size day rows) ≡ rows_needed (take (n + 1) rows) =
-      omega (arith, ap length (lines_more n), length-append (first_lines n size day rows) (lines_at size day rows n), length_series (terms_at size day rows n) (get_or rows n past_series).cells, lines_length n (omega arith), sum_by_more (λ (r : Series). lines_needed r.cells) rows n past_series (omega arith)) in
+      omega (arith, length_next n, lines_length n (omega arith), sum_by_more (λ (r : Series). lines_needed r.cells) rows n past_series (omega arith)) in
       rw (add-one n) at go
 
   pub lines_length_le : (n : ℕ) → n ≤ length rows → length (first_lines n size day rows) ≤ rows_needed rows

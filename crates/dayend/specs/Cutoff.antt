@@ -1,5 +1,5 @@
 -- The cut: positions are netted, and what is to be exercised is due.
-use Rattle.std.specs.Prelude.{◌≡◌, ℕ, zero, suc, ◌+◌, ◌-◌, ◌<◌, Bool, false, cond, not, ◌&&◌, ◌||◌, List, [], ◌∷◌, take, is_some, Some, None, sum_by, Option, ◌==◌}
+use Rattle.std.specs.Prelude.{◌≡◌, ℕ, zero, suc, ◌+◌, ◌-◌, ◌<◌, Bool, false, cond, not, ◌&&◌, ◌||◌, List, [], ◌∷◌, take, is_some, Some, None, sum_by, Option, ◌==◌, slice_index, slice_index_or}
 use Rattle.positions.specs.declared.cell.Cell.{Cell}
 use Rattle.positions.specs.declared.criterion.Criterion.{Criterion}
 use Rattle.positions.specs.declared.leg.Leg.{Leg}
@@ -10,12 +10,13 @@ use Rattle.positions.specs.Legs.{stepped}
 use Rattle.positions.specs.Places.{each}
 use Rattle.ledger.specs.declared.refusal.Refusal.{Refusal}
 use Rattle.ledger.specs.declared.refusal.Refusal.TheVariants.{NoFixingPrice}
+use Rattle.ledger.specs.declared.state.Account.{Account}
 use Rattle.ledger.specs.declared.state.Contract.{Contract}
 use Rattle.ledger.specs.declared.state.Request.{Request}
 use Rattle.ledger.specs.declared.state.Series.{Series}
 use Rattle.ledger.specs.declared.state.Stage.TheVariants as stage
 use Rattle.ledger.specs.declared.state.State.{State}
-use Rattle.ledger.specs.Tables.{Requests, row, account_of}
+use Rattle.ledger.specs.Tables.{Requests, no_account, row, account_of}
 use Rattle.ledger.specs.Lookups.{expiring}
 use Rattle.exercise.specs.Criteria.{criterion_of}
 
@@ -50,6 +51,10 @@ abbrev pub automatic : State → ℕ → ℕ → Bool
 automatic s a i = expiring s i && met_at s.fixing (criterion_of s a (row s (i - 1)).contract.right) (row s (i - 1)).contract
 
 -- ── the cut ──
+
+-- the cell of the account at a place, by the accounts, what each wants, and whether its longs are exercised without a request
+abbrev pub cut_by : List Account → List ℕ → List Bool → ℕ → Cell → Cell
+cut_by accounts wanted automatic at c = with_due (netted (slice_index_or accounts at no_account).account_type c) (slice_index wanted at) (slice_index_or automatic at false)
 
 -- account a's cell in series i, both by number
 abbrev pub cut_cell : State → ℕ → ℕ → Cell → Cell

@@ -1,30 +1,18 @@
 ghost use Rattle.std.specs.Prelude.{◌≡◌, ℕ, ◌<◌, ◌≤◌, length, sum_by, slice_index_or};
-ghost use Rattle.draws.specs.Checks.{first_refusal};
+ghost use Rattle.draws.specs.Checks.{checked};
 ghost use Rattle.settlement.specs.Assignment.{total_due, draws_for};
 ghost use Rattle.ledger.specs.declared.state.Stage.TheVariants.{Cut};
 ghost use Rattle.ledger.specs.Tables.{past_series};
 ghost use Rattle.exercise.specs.Criteria.{with_collateral};
 ghost use Rattle.dayend.specs.Assignment.{needed, assignment_checks, expires, RowsReady, assigned_rows, lodged_shares, with_shares, assigning, assigned_state};
-ghost use Rattle.ledger.specs.Sound.{Facts};
 
 use draws::Draws;
-use ledger::{Account, Refusal, Series, Stage, State, Terms};
+use ledger::{Account, Ledger, Refusal, Series, Stage, Terms};
 use settlement::{AssignmentTerms, assign_series, draws_for_series};
-
-// The draws that all series need.
-fn draws_needed(rows: &[Series; 32], block: u32) -> u32
-    requires { (1 ≤ block) × ((block ≤ 1_000) × ((i : ℕ) → i < length rows.now → total_due (slice_index_or rows.now i past_series).cells ≤ 100_000)) }
-    ensures { result ≡ sum_by (λ r. draws_for r.cells block) rows.now }
-{
-    let mut all = 0;
-    for row in rows {
-        all += draws_for_series(&row.cells, block);
-    }
-    all
-}
+use std::array;
 
 // Whether the series expires on the day.
-fn expires(row: &Series, previous: u32, day: u32) -> bool
+pub(crate) fn expires(row: &Series, previous: u32, day: u32) -> bool
     ensures { result ≡ expires previous day row.now }
 {
     previous < row.contract.expiry && row.contract.expiry <= day
@@ -44,94 +32,78 @@ fn assign_rows<S: Draws>(
     ensures collateral { collateral.new ≡ (assigned_rows terms.now previous day (S.meaning source.old) collateral.old rows.old).collateral }
     ensures source { S.meaning source.new ≡ (assigned_rows terms.now previous day (S.meaning source.old) collateral.old rows.old).source }
 {
-    for i in 0..32 {
-        let lapses = expires(&rows[i], previous, day);
+    for row in rows.iter_mut() {
+        let lapses = expires(row, previous, day);
         let terms = AssignmentTerms {
-            right: rows[i].contract.right,
+            right: row.contract.right,
             size: terms.size,
             block: terms.block,
             lapses,
         };
-        assign_series(source, &mut rows[i].cells, collateral, &terms);
-    }
-}
-
-// The account with other collateral.
-fn with_collateral(account: &Account, shares: u32) -> Account
-    ensures { result ≡ with_collateral account.now shares }
-{
-    Account {
-        participant: account.participant,
-        account_type: account.account_type,
-        collateral: shares,
-        calls: account.calls,
-        puts: account.puts,
+        assign_series(source, &mut row.cells, collateral, &terms);
     }
 }
 
 // The collateral of each account.
-fn list_collateral(accounts: &[Account; 32], shares: &mut [u32; 32])
-    ensures { shares.new ≡ lodged_shares accounts.now }
+fn lodged_shares(accounts: &[Account; 32]) -> [u32; 32]
+    ensures { result ≡ lodged_shares accounts.now }
 {
-    for i in 0..32 {
-        shares[i] = accounts[i].collateral;
-    }
+    array::from_fn(|i| accounts[i].collateral)
 }
 
 // Gives each account its collateral.
 fn put_collateral(accounts: &mut [Account; 32], shares: &[u32; 32])
     ensures { accounts.new ≡ with_shares accounts.old shares.now }
 {
-    for i in 0..32 {
-        let account = accounts[i];
-        accounts[i] = with_collateral(&account, shares[i]);
+    for (i, account) in accounts.iter_mut().enumerate() {
+        account.collateral = shares[i];
     }
 }
 
 // The draws that the assignment needs.
-fn needed(book: &State) -> u32
-    requires sound { Facts book.now }
-    requires cut { book.now.stage ≡ Cut }
-    ensures { result ≡ needed book.now }
+fn needed(book: &Ledger) -> u32
+    requires { book.now.state.stage ≡ Cut }
+    ensures { result ≡ needed book.now.state }
 {
-    draws_needed(&book.series.rows, book.terms.block)
+    let block = book.state.terms.block;
+    let rows = &book.state.series.rows;
+    rows.iter()
+        .map(|row| draws_for_series(&row.cells, block))
+        .sum()
 }
 
 // Why an assignment is turned back, if it is.
-pub fn refuse_assignment<S: Draws>(book: &State, source: &S) -> Option<Refusal>
-    requires sound { Facts book.now }
-    requires cut { book.now.stage ≡ Cut }
-    ensures { result ≡ first_refusal (assignment_checks book.now (S.meaning source.now)) }
+pub fn check_assignment<S: Draws>(book: &Ledger, source: &S) -> Result<(), Refusal>
+    requires { book.now.state.stage ≡ Cut }
+    ensures { result ≡ checked (assignment_checks book.now.state (S.meaning source.now)) }
 {
     let needed = needed(book);
     if source.supply() < u64::from(needed) {
-        return Some(Refusal::DrawsShort(needed));
+        return Err(Refusal::DrawsShort(needed));
     }
-    None
+    Ok(())
 }
 
 // Exercises what is due and assigns it, series by series, and answers the draws used.
-pub fn assign<S: Draws>(book: &mut State, source: &mut S) -> u32
-    requires sound { Facts book.old }
-    requires cut { book.old.stage ≡ Cut }
-    requires supplied { needed book.old ≤ (S.meaning source.old).supply }
-    ensures used { result ≡ needed book.old }
-    ensures after { book.new ≡ assigned_state book.old (S.meaning source.old) }
-    ensures source { S.meaning source.new ≡ (assigning book.old (S.meaning source.old)).source }
+pub fn assign<S: Draws>(book: &mut Ledger, source: &mut S) -> u32
+    requires cut { book.old.state.stage ≡ Cut }
+    requires supplied { needed book.old.state ≤ (S.meaning source.old).supply }
+    ensures used { result ≡ needed book.old.state }
+    ensures after { book.new.state ≡ assigned_state book.old.state (S.meaning source.old) }
+    ensures source { S.meaning source.new ≡ (assigning book.old.state (S.meaning source.old)).source }
 {
     let used = needed(book);
-    let mut shares = [0; 32];
-    list_collateral(&book.accounts.rows, &mut shares);
-    let terms = book.terms;
+    let mut shares = lodged_shares(&book.state.accounts.rows);
+    let terms = book.state.terms;
     assign_rows(
         source,
-        &mut book.series.rows,
+        &mut book.state.series.rows,
         &mut shares,
         &terms,
-        book.previous,
-        book.day,
+        book.state.previous,
+        book.state.day,
     );
-    put_collateral(&mut book.accounts.rows, &shares);
-    book.stage = Stage::Assigned;
+    put_collateral(&mut book.state.accounts.rows, &shares);
+    book.state.stage = Stage::Assigned;
     used
 }

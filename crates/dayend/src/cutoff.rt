@@ -1,26 +1,22 @@
-ghost use Rattle.std.specs.Prelude.{◌≡◌, ℕ, ◌+◌, ◌<◌, ◌≤◌, length, slice_index, slice_index_or};
-ghost use Rattle.draws.specs.Checks.{first_refusal};
+ghost use Rattle.std.specs.Prelude.{◌≡◌, ℕ, false, [], ◌+◌, ◌<◌, ◌≤◌, length, slice_index, slice_index_or};
+ghost use Rattle.draws.specs.Checks.{checked};
 ghost use Rattle.positions.specs.Places.{each};
-ghost use Rattle.ledger.specs.Tables.{no_request, cells_of, with_listing, with_cells};
-ghost use Rattle.dayend.specs.Cutoff.{any_expiring, cut_checks, asks, asked, AsksAt, automatic, cut_cell, cut_cells, cut_series, cut_legs, cut};
-ghost use Rattle.ledger.specs.Sound.{AllAsked, Facts};
+ghost use Rattle.ledger.specs.Tables.{no_request, with_listing};
+ghost use Rattle.dayend.specs.Cutoff.{any_expiring, cut_checks, asks, asked, AsksAt, automatic, cut_by, cut_series, cut_legs, cut};
+ghost use Rattle.ledger.specs.Sound.{Facts};
 
+use crate::assignment::expires;
 use exercise::criterion;
-use ledger::{Refusal, Request, Requests, Stage, State};
+use ledger::{Account, Contract, Ledger, Refusal, Request, Requests, Series, Stage, State};
 use positions::{Cell, Leg, LegEvent};
+use std::array;
 
 // The place of the account that a pending request in the series asks for.
 fn place_of(request: &Request, series: u32) -> Option<usize>
     ensures { AsksAt request.now series result }
 {
-    if request.pending
-        && request.series == series
-        && 1 <= request.account
-        && request.account <= 32
-    {
-        return Some(request.account as usize - 1);
-    }
-    None
+    let asks = request.pending && request.series == series;
+    (asks && (1..=32).contains(&request.account)).then(|| request.account as usize - 1)
 }
 
 // Adds what a request asks in the series to what each account wants.
@@ -42,113 +38,106 @@ fn asked_in(requests: &Requests, series: u32) -> [u32; 32]
     ensures { (a : ℕ) → a < 32 → slice_index result a ≡ asked requests.now (a + 1) series }
 {
     let mut wanted = [0; 32];
-    for i in 0..requests.count as usize {
-        note(&mut wanted, &requests.rows[i], series);
+    for request in &requests.rows[..requests.count as usize] {
+        note(&mut wanted, request, series);
     }
     wanted
 }
 
 // Whether a listed series expires today.
-fn any_expiring(book: &State) -> bool
-    requires { book.now.series.count ≤ 32 }
-    ensures { result ≡ any_expiring book.now book.now.series.count }
+fn any_expiring(book: &Ledger) -> bool
+    ensures { result ≡ any_expiring book.now.state book.now.state.series.count }
 {
-    for i in 0..book.series.count {
-        if book.expiring(i + 1) {
-            return true;
-        }
-    }
-    false
+    let state = &book.state;
+    state.series.rows[..state.series.count as usize]
+        .iter()
+        .any(|row| expires(row, state.previous, state.day))
 }
 
 // Why the cut is turned back, if it is.
-pub fn refuse_cut(book: &State) -> Option<Refusal>
-    requires { Facts book.now }
-    ensures { result ≡ first_refusal (cut_checks book.now) }
+pub fn check_cut(book: &Ledger) -> Result<(), Refusal>
+    ensures { result ≡ checked (cut_checks book.now.state) }
 {
-    if any_expiring(book) && !book.fixing.is_some() {
-        return Some(Refusal::NoFixingPrice);
+    if any_expiring(book) && book.state.fixing.is_none() {
+        return Err(Refusal::NoFixingPrice);
     }
-    None
+    Ok(())
 }
 
-// Whether the account's longs in the series are exercised without a request.
-fn automatic(book: &State, account: u32, series: u32) -> bool
-    requires { (1 ≤ account) × ((account ≤ 32) × ((1 ≤ series) × (series ≤ 32))) }
-    ensures { result ≡ automatic book.now account series }
+// Whether each account's longs in the series are exercised without a request.
+fn automatic_in(book: &State, series: u32) -> [bool; 32]
+    requires { (1 ≤ series) × (series ≤ 32) }
+    ensures { (a : ℕ) → a < 32 → slice_index_or result a false ≡ automatic book.now (a + 1) series }
 {
-    if !book.expiring(series) {
-        return false;
-    }
-    let contract = book.series.rows[series as usize - 1].contract;
-    match book.fixing {
-        Some(price) => criterion(book, account, contract.right).meets(
-            contract.right,
-            contract.strike,
-            price,
-        ),
-        None => false,
-    }
+    let Contract { right, strike, .. } = book.series.rows[series as usize - 1].contract;
+    let price = book.fixing.filter(|_| book.expiring(series));
+    array::from_fn(|a| {
+        price.is_some_and(|price| criterion(book, a as u32 + 1, right).meets(right, strike, price))
+    })
 }
 
-// An account's cell in a series after the cut.
-fn cut_cell(book: &State, series: u32, account: u32, wanted: u32, cell: &Cell) -> Cell
-    requires wanted { wanted ≡ asked book.now.requests account series }
-    requires place { (1 ≤ series) × ((series ≤ 32) × ((1 ≤ account) × (account ≤ 32))) }
-    ensures { result ≡ cut_cell book.now series account cell.now }
+// The same for each series.
+fn automatic(book: &State) -> [[bool; 32]; 32]
+    ensures { (i a : ℕ) → i < 32 → a < 32 → slice_index_or (slice_index_or result i []) a false ≡ automatic book.now (a + 1) (i + 1) }
 {
-    let netted = cell.netted(book.accounts.rows[account as usize - 1].account_type);
-    if netted.longs == 0 {
-        return netted.with_due(0, false);
-    }
-    netted.with_due(wanted, automatic(book, account, series))
+    array::from_fn(
+        |i|
+            requires { i < 32 }
+            ensures { (a : ℕ) → a < 32 → slice_index_or result a false ≡ automatic book.entry.now (a + 1) (i + 1) }
+        { automatic_in(book, i as u32 + 1) },
+    )
 }
 
-// Nets the positions, sets what is due, and frees held legs.
-pub fn cut(book: &mut State)
-    requires { Facts book.old }
-    ensures { book.new ≡ cut book.old }
+// Cuts the cells of a series. One with neither longs nor contracts due stays as it is.
+fn cut_cells(
+    cells: &mut [Cell; 32],
+    accounts: &[Account; 32],
+    wanted: &[u32; 32],
+    automatic: &[bool; 32],
+)
+    ensures { cells.new ≡ each (cut_by accounts.now wanted.now automatic.now) cells.old }
 {
-    cut_rows(book);
-    cut_legs(&mut book.legs.rows);
-    book.stage = Stage::Cut;
-}
-
-// The series at a place. The cut leaves a cell with neither longs nor contracts due as it is.
-fn cut_series(book: &mut State, at: usize)
-    requires count { book.old.requests.count ≤ 128 }
-    requires size { length book.old.requests.rows ≡ 128 }
-    requires small { AllAsked book.old }
-    requires rows { length book.old.series.rows ≡ 32 }
-    requires cells { length (cells_of book.old at) ≡ 32 }
-    requires place { at < 32 }
-    ensures { book.new ≡ with_cells book.old at (cut_cells book.old (at + 1) (cells_of book.old at)) }
-{
-    let wanted = asked_in(&book.requests, at as u32 + 1);
-    for a in 0..32usize {
-        let cell = book.series.rows[at].cells[a];
+    // Kept: an index, since a proof learns nothing of what a zip with `iter_mut` writes.
+    for (a, cell) in cells.iter_mut().enumerate() {
         if cell.longs == 0 && cell.due == 0 {
             continue;
         }
-        let after = cut_cell(book, at as u32 + 1, a as u32 + 1, wanted[a], &cell);
-        book.series.rows[at].cells[a] = after;
+        let netted = cell.netted(accounts[a].account_type);
+        *cell = netted.with_due(wanted[a], automatic[a]);
     }
 }
 
-// The series, each by its place.
+// The series after the cut, each by its place.
 fn cut_rows(book: &mut State)
     requires { Facts book.old }
     ensures { book.new ≡ with_listing book.old (record { rows = each (cut_series book.old) book.old.series.rows; count = book.old.series.count }) }
 {
-    for i in 0..32usize {
-        cut_series(book, i);
+    let automatic = automatic(book);
+    let State {
+        accounts,
+        series,
+        requests,
+        ..
+    } = book;
+    for (i, row) in series.rows.iter_mut().enumerate() {
+        let wanted = asked_in(requests, i as u32 + 1);
+        cut_cells(&mut row.cells, &accounts.rows, &wanted, &automatic[i]);
     }
+}
+
+// Nets the positions, sets what is due, and frees held legs.
+pub fn cut(book: &mut Ledger)
+    ensures { book.new.state ≡ cut book.old.state }
+{
+    cut_rows(&mut book.state);
+    cut_legs(&mut book.state.legs.rows);
+    book.state.stage = Stage::Cut;
 }
 
 fn cut_legs(legs: &mut [Leg; 256])
     ensures { legs.new ≡ cut_legs legs.old }
 {
-    for i in 0..256usize {
-        legs[i].step(LegEvent::Cut);
+    for leg in legs.iter_mut() {
+        leg.step(LegEvent::Cut);
     }
 }

@@ -6,7 +6,7 @@ use Rattle.ledger.specs.declared.refusal.Refusal.TheVariants.{OutOfRange, NoAcco
 use Rattle.ledger.specs.declared.state.Request.{Request}
 use Rattle.ledger.specs.declared.state.State.{State}
 use Rattle.ledger.specs.Tables.{Requests, one_more, cells_of, cell_at, no_request, with_cells}
-use Rattle.ledger.specs.Lookups.{within, has_account, has_series, expired, expiring}
+use Rattle.ledger.specs.Lookups.{within, has, has_account, has_series, expired, expiring}
 
 abbrev pub with_requests : State → Requests → State
 with_requests s t = record { terms = s.terms; day = s.day; previous = s.previous; stage = s.stage; trading = s.trading; fixing = s.fixing; house = s.house; accounts = s.accounts; series = s.series; legs = s.legs; requests = t }
@@ -38,7 +38,7 @@ request_added s account series quantity = with_requests s (one_request_more s.re
 
 -- a request of that number, not rejected yet
 abbrev pub has_pending : State → ℕ → Bool
-has_pending s n = within n 1 s.requests.count && (request_of s n).pending
+has_pending s n = has s.requests n && (request_of s n).pending
 
 abbrev pub rejection_checks : State → ℕ → List (Bool × Refusal)
 rejection_checks s n = (has_pending s n, NoRequest) ∷ []

@@ -1,18 +1,14 @@
-use Rattle.std.proofs.Common.{◌≡◌, ℕ, false, sym, refl, subst, arith}
-use Rattle.dayend.specs.Cutoff.{any_expiring}
-use Rattle.dayend.proofs.CutSteps.{expiring_next, expiring_hit}
+use Rattle.std.proofs.Common.{take, ◌∙◌, arith, rules}
+use Rattle.std.proofs.lemmas.Iterator.{YieldsList-from_slice}
+use Rattle.std.proofs.lemmas.Iterator.Search.{any_from_yields_List}
+use Rattle.ledger.proofs.FactLaws.{facts}
+use Rattle.dayend.specs.Assignment.{expires}
+use Rattle.dayend.proofs.CutSteps.{any_row}
 use Rattle.dayend.proofs.cutoff.any_expiring.Goals as goal
-
-pub loop-i-init : goal.loop-i-init
-loop-i-init c = refl
-
-pub returns-then-expiring : goal.returns-then-expiring
-returns-then-expiring c = sym (expiring_hit c.args.book.now c.args.book.now.series.count c.loop-i.i c.loop-i-test.true (sym c.if-expiring.ensures))
-
-pub loop-i-preserved : goal.loop-i-preserved
-loop-i-preserved c = expiring_next c.args.book.now c.loop-i.i c.loop-i.invariant (sym c.if-expiring.ensures)
 
 pub returns : goal.returns
 returns c =
-    let e : c.loop-i.i ≡ c.args.book.now.series.count = omega arith in
-    sym (subst (λ (k : ℕ). any_expiring c.args.book.now k ≡ false) e c.loop-i.invariant)
+    let s = c.args.book.now.state in
+    let f = facts s c.args.book.now.sound in
+    any_from_yields_List (expires s.previous s.day) _ _ c.any.result c.any.ensures.ran (YieldsList-from_slice (take s.series.count s.series.rows) (search rules)) (λ x b q k. search rules)
+    ∙ any_row s s.series.count (omega (arith, f.tables.0.1, f.tables.1.1))
