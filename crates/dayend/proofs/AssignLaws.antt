@@ -1,6 +1,6 @@
 -- The assignment of all series.
-use Rattle.std.proofs.Common.{◌≡◌, ℕ, zero, suc, ◌+◌, ◌<◌, ◌≤◌, Bool, List, [], ◌∷◌, ◌++◌, length, get_or, take, drop, set, sum_by, sym, refl, ap, ◌∙◌, subst, append_assoc, append-nil, add-one, arith, length-set}
-use Rattle.std.proofs.lemmas.List.{take_more_set, drop_more, take_all, drop_all}
+use Rattle.std.proofs.Common.{◌≡◌, ℕ, zero, suc, ◌+◌, ◌<◌, ◌≤◌, Bool, List, [], ◌∷◌, ◌++◌, length, get_or, take, drop, set, sum_by, sym, refl, ap, ◌∙◌, subst, append_assoc, add-one, arith, length-set}
+use Rattle.std.proofs.lemmas.List.{take_more_set, drop_more}
 use Rattle.std.proofs.lemmas.List.Sums.{sum_by-cons}
 use Rattle.draws.specs.Meaning.{Meaning, Below}
 use Rattle.positions.specs.declared.cell.Cell.{Cell}
@@ -93,17 +93,6 @@ pub record Going (t : Terms) (previous day : ℕ) (m₀ : Meaning) (c₀ : List 
   pub source_then : (assigned_rows t previous day m c (drop i rows₀)).source ≡ (assigned_rows t previous day m₀ c₀ rows₀).source
 
 module _ (t : Terms) (previous day : ℕ) (m₀ : Meaning) (c₀ : List ℕ) (rows₀ : List Series) where
-  pub going_none : RowsReady t m₀ rows₀ → Going t previous day m₀ c₀ rows₀ m₀ c₀ rows₀ 0
-  going_none ready = record { size = refl; rest = refl; ready = ready; rows_so_far = refl; collateral_then = refl; source_then = refl }
-
-  pub going_all : (m : Meaning) (c : List ℕ) (rows : List Series) (i : ℕ) → Going t previous day m₀ c₀ rows₀ m c rows i → length rows₀ ≤ i
-      → (rows ≡ (assigned_rows t previous day m₀ c₀ rows₀).rows) × (c ≡ (assigned_rows t previous day m₀ c₀ rows₀).collateral) × (m ≡ (assigned_rows t previous day m₀ c₀ rows₀).source)
-  going_all m c rows i w h =
-      let none : drop i rows₀ ≡ [] = drop_all i rows₀ h in
-      let all : take i rows ≡ rows = take_all i rows (omega (arith, w.size)) in
-      let a = rw (none, all) at w.rows_so_far in
-      (sym (append-nil rows) ∙ a, rw none at w.collateral_then, rw none at w.source_then)
-
   -- one series more
   module _ (m : Meaning) (c : List ℕ) (rows : List Series) (i : ℕ) (below : Below m) (w : Going t previous day m₀ c₀ rows₀ m c rows i) (lt : i < length rows₀) where
     abbrev r : Series
