@@ -8,7 +8,7 @@ ghost use Rattle.dayend.specs.Assignment.{needed, assignment_checks, expires, Ro
 
 use draws::Draws;
 use ledger::{Account, Ledger, Refusal, Series, Stage, Terms};
-use settlement::{assign_series, draws_for_series};
+use settlement::{AssignmentTerms, assign_series, draws_for_series};
 use std::array;
 
 // Whether the series expires on the day.
@@ -33,16 +33,13 @@ fn assign_rows<S: Draws>(
     ensures source { S.meaning source.new ≡ (assigned_rows terms.now previous day (S.meaning source.old) collateral.old rows.old).source }
 {
     for row in rows.iter_mut() {
-        let lapses = expires(row, previous, day);
-        assign_series(
-            source,
-            &mut row.cells,
-            collateral,
-            row.contract.right,
-            terms.size,
-            terms.block,
-            lapses,
-        );
+        let terms = AssignmentTerms {
+            right: row.contract.right,
+            size: terms.size,
+            block: terms.block,
+            lapses: expires(row, previous, day),
+        };
+        assign_series(source, &mut row.cells, collateral, &terms);
     }
 }
 

@@ -33,8 +33,8 @@ fn numbers_of(line: &Line) -> StatementLine
     StatementLine {
         series: u64::from(line.series),
         account: u64::from(line.account),
-        role: u64::from(line.role.code()),
-        method: u64::from(line.method.code()),
+        role: u64::from(line.role),
+        method: u64::from(line.method),
         contracts: u64::from(line.contracts),
         shares_received: line.shares_received,
         shares_delivered: line.shares_delivered,

@@ -7,6 +7,7 @@ use Rattle.positions.specs.declared.cell.Cell.{Cell}
 use Rattle.positions.specs.declared.kinds.Right.{Right}
 use Rattle.positions.specs.Cells.{no_cell}
 use Rattle.positions.specs.Rows.{total_longs, total_shorts}
+use Rattle.settlement.specs.declared.account.AssignmentTerms.{AssignmentTerms}
 use Rattle.settlement.specs.Account.{covering, shares_after, settled, at_end}
 
 -- the contracts that are exercised
@@ -57,3 +58,6 @@ series_outcome m cells collateral right size block lapses = record {
   collateral = map (collateral_after right size collateral (assigned_in m cells block)) (range_with_len 0 (length cells));
   source = behind_all (bounds (draws_for cells block) (total_shorts cells) block) m;
 }
+
+abbrev pub outcome_by : AssignmentTerms → Meaning → List Cell → List ℕ → SeriesOutcome
+outcome_by t m cells collateral = series_outcome m cells collateral t.right t.size t.block t.lapses

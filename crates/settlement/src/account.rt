@@ -1,27 +1,40 @@
-ghost use Rattle.std.specs.Prelude.{◌≡◌, ◌-◌, ◌*◌, ◌<◌, ◌≤◌};
+ghost use Rattle.std.specs.Prelude.{◌≡◌, ◌-◌, ◌*◌, ◌≤◌};
 ghost use Rattle.settlement.specs.Account.{covering, settled, lapsed, at_end};
 
 use positions::{Cell, Right};
 
-// How many of the assigned contracts the shares lodged cover.
-pub fn covered_by(shares: u32, right: Right, size: u32, assigned: u32) -> u32
-    requires { 0 < size }
-    ensures { result ≡ covering right size shares assigned }
-{
-    match right {
-        Right::Call if assigned > 0 => assigned.min(shares / size),
-        Right::Call => 0,
-        Right::Put => 0,
-    }
+// What the assignment of a series goes by.
+#[derive(Clone, Copy, Debug, PartialEq, Eq)]
+pub struct AssignmentTerms {
+    pub right: Right,
+    // The shares of a contract.
+    pub size: u32,
+    // The contracts that one draw assigns.
+    pub block: u32,
+    // Whether the series expires with the day.
+    pub lapses: bool,
+    pub ghost sized: { 1 ≤ size },
 }
 
-// The shares lodged, less those that the covered contracts deliver.
-pub fn shares_left(shares: u32, size: u32, covered: u32) -> u32
-    requires { covered * size ≤ shares }
-    ensures { result ≡ shares - covered * size }
-{
-    let delivered = covered * size;
-    shares - delivered
+impl AssignmentTerms {
+    // How many of the assigned contracts the shares lodged cover.
+    pub(crate) fn covered_by(&self, shares: u32, assigned: u32) -> u32
+        ensures { result ≡ covering self.now.right self.now.size shares assigned }
+    {
+        match self.right {
+            Right::Call if assigned > 0 => assigned.min(shares / self.size),
+            _ => 0,
+        }
+    }
+
+    // The shares lodged, less those that the covered contracts deliver.
+    pub(crate) fn shares_left(&self, shares: u32, covered: u32) -> u32
+        requires { covered * self.now.size ≤ shares }
+        ensures { result ≡ shares - covered * self.now.size }
+    {
+        let delivered = covered * self.size;
+        shares - delivered
+    }
 }
 
 // The cell when what is due is exercised, and so many of its shorts are assigned.
@@ -32,11 +45,11 @@ fn settle(cell: &Cell, assigned: u32, covered: u32) -> Cell
     Cell {
         longs: cell.longs - cell.due,
         shorts: cell.shorts - assigned,
-        denied: cell.denied,
         due: 0,
         exercised: cell.due,
         assigned,
         covered,
+        ..*cell
     }
 }
 

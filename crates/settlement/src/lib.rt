@@ -6,6 +6,7 @@ mod assignment;
 mod line;
 mod statement;
 
+pub use account::AssignmentTerms;
 pub use assignment::{assign_series, draws_for_series};
 pub use line::{Line, Method, Role, SeriesTerms};
 pub use statement::{count_series, write_series};

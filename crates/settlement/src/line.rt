@@ -4,21 +4,21 @@ ghost use Rattle.settlement.specs.Lines.{role_code, method_code, takes, line};
 use positions::Right;
 
 // What a line's contracts were: exercised, or assigned.
-#[derive(Clone, Copy)]
+#[derive(Clone, Copy, Debug, PartialEq, Eq)]
 pub enum Role {
     Exerciser,
     Assignee,
 }
 
 // How they are settled: covered by shares lodged, or otherwise.
-#[derive(Clone, Copy)]
+#[derive(Clone, Copy, Debug, PartialEq, Eq)]
 pub enum Method {
     Covered,
     Other,
 }
 
 // One line of the statement.
-#[derive(Clone, Copy)]
+#[derive(Clone, Copy, Debug, PartialEq, Eq)]
 pub struct Line {
     pub series: u32,
     pub account: u32,
@@ -33,7 +33,8 @@ pub struct Line {
 }
 
 // What the lines of one series share.
-#[derive(Clone, Copy)]
+// Kept: functions ask that the size is at most 10,000, since the laws and the statement's definitions take any size.
+#[derive(Clone, Copy, Debug, PartialEq, Eq)]
 pub struct SeriesTerms {
     pub series: u32,
     pub right: Right,
@@ -42,22 +43,22 @@ pub struct SeriesTerms {
     pub settlement_day: u32,
 }
 
-impl Role {
-    pub fn code(self) -> u32
-        ensures { result ≡ role_code self }
-    {
-        match self {
+impl From<Role> for u64 {
+    ghost from_gives = { λ role code. code ≡ role_code role };
+
+    fn from(role: Role) -> u64 {
+        match role {
             Role::Exerciser => 1,
             Role::Assignee => 2,
         }
     }
 }
 
-impl Method {
-    pub fn code(self) -> u32
-        ensures { result ≡ method_code self }
-    {
-        match self {
+impl From<Method> for u64 {
+    ghost from_gives = { λ method code. code ≡ method_code method };
+
+    fn from(method: Method) -> u64 {
+        match method {
             Method::Covered => 1,
             Method::Other => 2,
         }
@@ -78,20 +79,17 @@ impl SeriesTerms {
     fn takes(&self, role: Role) -> bool
         ensures { result ≡ takes self.now.right role }
     {
-        match (self.right, role) {
-            (Right::Call, Role::Exerciser) => true,
-            (Right::Call, Role::Assignee) => false,
-            (Right::Put, Role::Exerciser) => false,
-            (Right::Put, Role::Assignee) => true,
-        }
+        matches!(
+            (self.right, role),
+            (Right::Call, Role::Exerciser) | (Right::Put, Role::Assignee)
+        )
     }
 
     // The shares of so many contracts.
-    fn shares(&self, contracts: u32) -> u32
-        requires { (contracts ≤ 100_000) × (self.now.size ≤ 10_000) }
+    fn shares(&self, contracts: u32) -> u64
         ensures { result ≡ contracts * self.now.size }
     {
-        contracts * self.size
+        u64::from(contracts) * u64::from(self.size)
     }
 
     // The line of so many contracts of an account in that role.
@@ -99,7 +97,7 @@ impl SeriesTerms {
         requires { (contracts ≤ 100_000) × (self.now.size ≤ 10_000) }
         ensures { result ≡ line self.now account role method contracts }
     {
-        let shares = u64::from(self.shares(contracts));
+        let shares = self.shares(contracts);
         let money = shares * u64::from(self.strike);
         let mut line = Line {
             series: self.series,
