@@ -51,7 +51,7 @@ fn places_too_few(rt: HostRuntime) -> Result<(), Fail> {
         return Err(Fail::new("a statement in one place"));
     };
     assert_eq!(rt;
-        refusal.reply(),
+        Reply::from(refusal),
         Reply {
             number: 17,
             result: 2,

@@ -16,7 +16,7 @@ pub(crate) fn reply_of(answer: Result<u32, Refusal>) -> Reply
 {
     match answer {
         Ok(result) => Reply { number: 0, result },
-        Err(refusal) => refusal.reply(),
+        Err(refusal) => refusal.into(),
     }
 }
 

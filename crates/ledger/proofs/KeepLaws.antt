@@ -1,6 +1,6 @@
 -- A book with one part changed keeps what every book keeps.
 use Rattle.std.proofs.Common.{◌≡◌, ℕ, zero, suc, ◌+◌, ◌-◌, ◌<◌, ◌≤◌, ◌≢◌, List, length, get_or, set, replicate, sym, refl, ap, ◌∙◌, subst, inl, inr, arith, length-set}
-use Rattle.std.proofs.lemmas.List.{get_or-set_same, get_or-set_other}
+use Rattle.std.proofs.lemmas.List.{get_or-replicate, get_or-set_same, get_or-set_other}
 use Rattle.std.proofs.lemmas.Bool.{cases_eq}
 use Rattle.positions.specs.declared.cell.Cell.{Cell}
 use Rattle.positions.specs.Cells.{no_cell}
@@ -24,9 +24,7 @@ all_same P (suc n) x d zero p q = p
 all_same P (suc n) x d (suc i) p q = all_same P n x d i p q
 
 all_within : {X : Type 0} (P : X → Type 0) (n : ℕ) (x d : X) (i : ℕ) → i < n → P x → P (get_or (replicate n x) i d)
-all_within P zero x d i h p = absurd (omega arith)
-all_within P (suc n) x d zero h p = p
-all_within P (suc n) x d (suc i) h p = all_within P n x d i (omega arith) p
+all_within P n x d i h p = subst P (sym (get_or-replicate n i x d h)) p
 
 -- the cells of a new series
 pub new_balanced : (c : Contract) → Balanced (new_series c).cells

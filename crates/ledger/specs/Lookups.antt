@@ -2,6 +2,7 @@
 use Rattle.std.specs.Prelude.{ℕ, ◌-◌, Bool, true, false, not, ◌&&◌, ◌==◌, nat_le, nat_lt}
 use Rattle.positions.specs.declared.leg.LegState.{LegState}
 use Rattle.positions.specs.declared.leg.LegState.TheVariants.{Free, Held}
+use Rattle.ledger.specs.declared.state.Contract.{Contract}
 use Rattle.ledger.specs.declared.state.State.{State}
 use Rattle.ledger.specs.declared.state.Table.{Table}
 use Rattle.ledger.specs.Tables.{row, account_of}
@@ -22,13 +23,17 @@ has_series s n = has s.series n
 abbrev pub has_leg : State → ℕ → Bool
 has_leg s n = has s.legs n
 
--- a series expires on the first book day that is not before its expiry; it has expired when that was an earlier day
+-- a contract expires on the first book day that is not before its expiry: here on a day, after the previous one
+abbrev pub expires : Contract → ℕ → ℕ → Bool
+expires c previous day = nat_lt previous c.expiry && nat_le c.expiry day
+
+-- a series has expired when that was an earlier day than today
 abbrev pub expired : State → ℕ → Bool
 expired s n = nat_le (row s (n - 1)).contract.expiry s.previous
 
--- and it expires on this day
+-- and it expires when it is today
 abbrev pub expiring : State → ℕ → Bool
-expiring s n = nat_lt s.previous (row s (n - 1)).contract.expiry && nat_le (row s (n - 1)).contract.expiry s.day
+expiring s n = expires (row s (n - 1)).contract s.previous s.day
 
 abbrev pub participant_of : State → ℕ → ℕ
 participant_of s n = (account_of s n).participant

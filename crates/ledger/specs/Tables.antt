@@ -1,5 +1,5 @@
 -- The tables of a book, at its opening and with a row changed.
-use Rattle.std.specs.Prelude.{ℕ, ◌+◌, ◌-◌, true, false, List, [], replicate, None, slice_index_or, slice_set}
+use Rattle.std.specs.Prelude.{ℕ, ◌+◌, ◌-◌, ◌≤◌, true, false, List, [], replicate, None, slice_index_or, slice_set}
 use Rattle.positions.specs.declared.cell.Cell.{Cell}
 use Rattle.positions.specs.declared.leg.Leg.{Leg}
 use Rattle.positions.specs.declared.leg.LegEvent.{LegEvent}
@@ -33,11 +33,11 @@ Requests = Table Request 128
 
 -- ── rows ──
 
-abbrev pub no_account : Account
-no_account = record { participant = 0; account_type = type.House; collateral = 0; calls = None; puts = None }
-
 abbrev pub new_account : ℕ → AccountType → Account
 new_account participant t = record { participant = participant; account_type = t; collateral = 0; calls = None; puts = None }
+
+abbrev pub no_account : Account
+no_account = new_account 0 type.House
 
 abbrev pub no_contract : Contract
 no_contract = record { right = Call; strike = 0; expiry = 0 }
@@ -55,6 +55,10 @@ no_request = record { account = 0; series = 0; quantity = 0; pending = false }
 
 -- ── the opening ──
 
+-- no row is in use
+abbrev pub empty_table : {T : Type 0} → (size : ℕ) → T → Table T size
+empty_table size r = record { rows = replicate size r; count = 0 }
+
 abbrev pub opening : ℕ → ℕ → ℕ → ℕ → State
 opening number day size block = record {
   terms = record { number = number; size = size; block = block };
@@ -64,13 +68,13 @@ opening number day size block = record {
   trading = true;
   fixing = None;
   house = record { calls = Amount 1; puts = Amount 1 };
-  accounts = record { rows = replicate 32 no_account; count = 0 };
-  series = record { rows = replicate 32 (new_series no_contract); count = 0 };
-  legs = record { rows = replicate 256 no_leg; count = 0 };
-  requests = record { rows = replicate 128 no_request; count = 0 };
+  accounts = empty_table 32 no_account;
+  series = empty_table 32 (new_series no_contract);
+  legs = empty_table 256 no_leg;
+  requests = empty_table 128 no_request;
 }
 
--- ── look-ups by place ──
+-- ── look-ups by place, and by number ──
 
 abbrev pub row : State → ℕ → Series
 row s at = slice_index_or s.series.rows at past_series
@@ -82,25 +86,33 @@ cells_of s at = (row s at).cells
 abbrev pub cell_at : State → ℕ → ℕ → Cell
 cell_at s a i = slice_index_or (cells_of s (i - 1)) (a - 1) no_cell
 
+-- the number of a row, counted from 1
+abbrev pub RowNumber : ℕ → ℕ → Type 0
+RowNumber size n = (1 ≤ n) × (n ≤ size)
+
+-- a table's row by its number; d past the table's end
+abbrev pub row_of : {T : Type 0} {size : ℕ} → Table T size → ℕ → T → T
+row_of t n d = slice_index_or t.rows (n - 1) d
+
 abbrev pub account_of : State → ℕ → Account
-account_of s n = slice_index_or s.accounts.rows (n - 1) no_account
+account_of s n = row_of s.accounts n no_account
 
 abbrev pub leg_of : State → ℕ → Leg
-leg_of s n = slice_index_or s.legs.rows (n - 1) no_leg
+leg_of s n = row_of s.legs n no_leg
 
 -- ── a state with one part changed ──
 
 abbrev pub with_accounts : State → Accounts → State
-with_accounts s t = record { terms = s.terms; day = s.day; previous = s.previous; stage = s.stage; trading = s.trading; fixing = s.fixing; house = s.house; accounts = t; series = s.series; legs = s.legs; requests = s.requests }
+with_accounts s t = record s { accounts = t }
 
 abbrev pub with_listing : State → Listing → State
-with_listing s t = record { terms = s.terms; day = s.day; previous = s.previous; stage = s.stage; trading = s.trading; fixing = s.fixing; house = s.house; accounts = s.accounts; series = t; legs = s.legs; requests = s.requests }
+with_listing s t = record s { series = t }
 
 abbrev pub with_legs : State → Legs → State
-with_legs s t = record { terms = s.terms; day = s.day; previous = s.previous; stage = s.stage; trading = s.trading; fixing = s.fixing; house = s.house; accounts = s.accounts; series = s.series; legs = t; requests = s.requests }
+with_legs s t = record s { legs = t }
 
 abbrev pub with_cells : State → ℕ → List Cell → State
-with_cells s at cells = with_listing s (record { rows = slice_set s.series.rows at (record { contract = (row s at).contract; cells = cells }); count = s.series.count })
+with_cells s at cells = with_listing s (record s.series { rows = slice_set s.series.rows at (record (row s at) { cells = cells }) })
 
 -- ── a table with one row more, or changed ──
 
@@ -117,7 +129,7 @@ abbrev pub one_leg_more : Legs → Leg → Legs
 one_leg_more t l = one_more t l
 
 abbrev pub leg_rebooked : Legs → ℕ → ℕ → ℕ → Legs
-leg_rebooked t at account closed = record { rows = slice_set t.rows at (rebooked (slice_index_or t.rows at no_leg) account closed); count = t.count }
+leg_rebooked t at account closed = record t { rows = slice_set t.rows at (rebooked (slice_index_or t.rows at no_leg) account closed) }
 
 abbrev pub leg_stepped : Legs → ℕ → LegEvent → Legs
-leg_stepped t at e = record { rows = slice_set t.rows at (stepped (slice_index_or t.rows at no_leg) e); count = t.count }
+leg_stepped t at e = record t { rows = slice_set t.rows at (stepped (slice_index_or t.rows at no_leg) e) }

@@ -1,6 +1,6 @@
-ghost use Rattle.std.specs.Prelude.{◌≡◌, ◌-◌, ◌<◌, ◌≤◌};
-ghost use Rattle.ledger.specs.Tables.{cell_at};
-ghost use Rattle.ledger.specs.Lookups.{within, has_account, has_series, has_leg, expired, expiring, participant_of, another_of_same, is_free, held_for};
+ghost use Rattle.std.specs.Prelude.{◌≡◌};
+ghost use Rattle.ledger.specs.Tables.{RowNumber, cell_at};
+ghost use Rattle.ledger.specs.Lookups.{within, has_account, has_series, has_leg, expires, expired, expiring, participant_of, another_of_same, is_free, held_for};
 
 use crate::state::*;
 use positions::{Cell, LegState};
@@ -25,6 +25,16 @@ pub fn is_held_for(state: LegState, participant: u32) -> bool
     state == LegState::Held(participant)
 }
 
+impl Contract {
+    // Whether it expires on a book day, which follows the previous one.
+    pub fn expires(&self, previous: u32, day: u32) -> bool
+        ensures { result ≡ expires self.now previous day }
+    {
+        previous < self.expiry && self.expiry <= day
+    }
+}
+
+// Kept: callers have checked the numbers; a type for a checked one would be made and opened around each call.
 impl State {
     pub fn has_account(&self, n: u32) -> bool
         ensures { result ≡ has_account self.now n }
@@ -46,39 +56,41 @@ impl State {
 
     // Whether the series expired on an earlier day.
     pub fn expired(&self, series: u32) -> bool
-        requires { (1 ≤ series) × (series ≤ 32) }
+        requires { RowNumber 32 series }
         ensures { result ≡ expired self.now series }
     {
-        self.series.rows[series as usize - 1].contract.expiry <= self.previous
+        self.series.row(series).contract.expiry <= self.previous
     }
 
     // Whether the series expires today.
     pub fn expiring(&self, series: u32) -> bool
-        requires { (1 ≤ series) × (series ≤ 32) }
+        requires { RowNumber 32 series }
         ensures { result ≡ expiring self.now series }
     {
-        let expiry = self.series.rows[series as usize - 1].contract.expiry;
-        self.previous < expiry && expiry <= self.day
+        self.series
+            .row(series)
+            .contract
+            .expires(self.previous, self.day)
     }
 
     // An account's cell in a series, both by number.
     pub fn cell(&self, account: u32, series: u32) -> Cell
-        requires { (1 ≤ account) × ((account ≤ 32) × ((1 ≤ series) × (series ≤ 32))) }
+        requires { RowNumber 32 account × RowNumber 32 series }
         ensures { result ≡ cell_at self.now account series }
     {
-        self.series.rows[series as usize - 1].cells[account as usize - 1]
+        self.series.row(series).cells[account as usize - 1]
     }
 
     pub fn participant(&self, account: u32) -> u32
-        requires { (1 ≤ account) × (account ≤ 32) }
+        requires { RowNumber 32 account }
         ensures { result ≡ participant_of self.now account }
     {
-        self.accounts.rows[account as usize - 1].participant
+        self.accounts.row(account).participant
     }
 
     // Whether the second is another account of the first one's participant.
     pub fn another_of_same(&self, one: u32, other: u32) -> bool
-        requires { (1 ≤ one) × ((one ≤ 32) × ((1 ≤ other) × (other ≤ 32))) }
+        requires { RowNumber 32 one × RowNumber 32 other }
         ensures { result ≡ another_of_same self.now one other }
     {
         one != other && self.participant(one) == self.participant(other)

@@ -4,7 +4,7 @@ ghost use Rattle.ledger.specs.Replies.{reply_of};
 use draws::Reply;
 
 // Why a call is turned back.
-#[derive(Clone, Copy)]
+#[derive(Clone, Copy, Debug, PartialEq, Eq)]
 pub enum Refusal {
     PassMisfit,
     OutOfRange,
@@ -28,44 +28,30 @@ pub enum Refusal {
     TooMany,
 }
 
-// A reply with result 0.
-fn plain(number: u32) -> Reply
-    ensures { result ≡ record { number = number; result = 0 } }
-{
-    Reply { number, result: 0 }
-}
+impl From<Refusal> for Reply {
+    ghost from_gives = { λ refusal reply. reply ≡ reply_of refusal };
 
-impl Refusal {
-    pub fn reply(self) -> Reply
-        ensures { result ≡ reply_of self }
-    {
-        match self {
-            Refusal::PassMisfit => plain(1),
-            Refusal::OutOfRange => plain(3),
-            Refusal::NoAccount => plain(4),
-            Refusal::NoSeries => plain(5),
-            Refusal::NoLeg => plain(6),
-            Refusal::NoRequest => plain(6),
-            Refusal::Expired => plain(7),
-            Refusal::TradingClosed => plain(8),
-            Refusal::WrongAccount => plain(9),
-            Refusal::LegHeld => plain(10),
-            Refusal::LegFree => plain(10),
-            Refusal::NotExpiring => plain(12),
-            Refusal::ListedAlready => plain(13),
-            Refusal::NoFixingPrice => plain(14),
-            Refusal::DayNotLater => plain(15),
-            Refusal::DrawsShort(needed) => Reply {
-                number: 16,
-                result: needed,
-            },
-            Refusal::StatementShort(needed) => Reply {
-                number: 17,
-                result: needed,
-            },
-            Refusal::Full => plain(18),
-            Refusal::TooFew => plain(19),
-            Refusal::TooMany => plain(20),
-        }
+    fn from(refusal: Refusal) -> Reply {
+        let (number, result) = match refusal {
+            Refusal::PassMisfit => (1, 0),
+            Refusal::OutOfRange => (3, 0),
+            Refusal::NoAccount => (4, 0),
+            Refusal::NoSeries => (5, 0),
+            Refusal::NoLeg | Refusal::NoRequest => (6, 0),
+            Refusal::Expired => (7, 0),
+            Refusal::TradingClosed => (8, 0),
+            Refusal::WrongAccount => (9, 0),
+            Refusal::LegHeld | Refusal::LegFree => (10, 0),
+            Refusal::NotExpiring => (12, 0),
+            Refusal::ListedAlready => (13, 0),
+            Refusal::NoFixingPrice => (14, 0),
+            Refusal::DayNotLater => (15, 0),
+            Refusal::DrawsShort(needed) => (16, needed),
+            Refusal::StatementShort(needed) => (17, needed),
+            Refusal::Full => (18, 0),
+            Refusal::TooFew => (19, 0),
+            Refusal::TooMany => (20, 0),
+        };
+        Reply { number, result }
     }
 }

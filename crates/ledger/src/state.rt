@@ -41,7 +41,7 @@ pub struct Series {
 }
 
 // An exercise request, pending until it is rejected.
-#[derive(Clone, Copy, Debug, PartialEq, Eq)]
+#[derive(Clone, Copy, Debug, Default, PartialEq, Eq)]
 pub struct Request {
     pub account: u32,
     pub series: u32,

@@ -1,8 +1,7 @@
 ghost use Rattle.std.specs.Prelude.{◌≡◌, ◌+◌, ◌<◌, ◌≤◌};
-ghost use Rattle.ledger.specs.Tables.{opening, cells_of, with_cells, one_more, leg_rebooked, leg_stepped};
+ghost use Rattle.ledger.specs.Tables.{new_account, new_series, opening, cells_of, with_cells, empty_table, RowNumber, row_of, one_more, leg_rebooked, leg_stepped};
 ghost use Rattle.ledger.specs.Lookups.{has};
 
-use crate::lookups::is_within;
 use crate::state::*;
 use positions::{AccountType, Cell, Criterion, Leg, LegEvent, Right};
 
@@ -32,36 +31,10 @@ impl State {
                 calls: Criterion::Amount(1),
                 puts: Criterion::Amount(1),
             },
-            accounts: Table {
-                rows: [Account {
-                    participant: 0,
-                    account_type: AccountType::House,
-                    collateral: 0,
-                    calls: None,
-                    puts: None,
-                }; 32],
-                count: 0,
-            },
-            series: Table {
-                rows: [Series {
-                    contract: NO_CONTRACT,
-                    cells: [Cell::empty(); 32],
-                }; 32],
-                count: 0,
-            },
-            legs: Table {
-                rows: [Leg::empty(); 256],
-                count: 0,
-            },
-            requests: Table {
-                rows: [Request {
-                    account: 0,
-                    series: 0,
-                    quantity: 0,
-                    pending: false,
-                }; 128],
-                count: 0,
-            },
+            accounts: Table::empty(Account::new(0, AccountType::House)),
+            series: Table::empty(Series::new(NO_CONTRACT)),
+            legs: Table::empty(Leg::empty()),
+            requests: Table::empty(Request::default()),
         }
     }
 
@@ -82,12 +55,57 @@ impl State {
     }
 }
 
+impl Account {
+    // An account with no collateral, under the house's criteria.
+    pub fn new(participant: u32, account_type: AccountType) -> Account
+        ensures { result ≡ new_account participant account_type }
+    {
+        Account {
+            participant,
+            account_type,
+            collateral: 0,
+            calls: None,
+            puts: None,
+        }
+    }
+}
+
+impl Series {
+    // A series in which no account has a position.
+    pub fn new(contract: Contract) -> Series
+        ensures { result ≡ new_series contract }
+    {
+        Series {
+            contract,
+            cells: [Cell::empty(); 32],
+        }
+    }
+}
+
 impl<T: Copy, const N: usize> Table<T, N> {
+    // A table with no row in use, and that row at each place.
+    pub fn empty(row: T) -> Table<T, N>
+        ensures { result ≡ empty_table N row }
+    {
+        Table {
+            rows: [row; N],
+            count: 0,
+        }
+    }
+
     // Whether there is a row of that number.
     pub fn has(&self, n: u32) -> bool
         ensures { result ≡ has self.now n }
     {
-        is_within(n, 1, self.count)
+        (1..=self.count).contains(&n)
+    }
+
+    // The row of a number.
+    pub fn row(&self, n: u32) -> &T
+        requires { RowNumber N n }
+        ensures { (d : T) → result.now ≡ row_of self.now n d }
+    {
+        &self.rows[n as usize - 1]
     }
 
     // One row more; its number.
