@@ -14,7 +14,8 @@ use Rattle.ledger.specs.declared.state.State.{State}
 use Rattle.ledger.specs.declared.state.Stage.TheVariants.{Cut}
 use Rattle.ledger.specs.declared.state.Terms.{Terms}
 use Rattle.ledger.specs.Tables.{past_series, cells_of}
-use Rattle.dayend.specs.Assignment.{needed, expires, RowReady, RowsReady, assigned_rows}
+use Rattle.ledger.specs.Lookups.{expires}
+use Rattle.dayend.specs.Assignment.{needed, RowReady, RowsReady, assigned_rows}
 use Rattle.ledger.specs.Sound.{Facts, Waiting}
 
 -- ── a book that has been cut is ready ──
@@ -41,7 +42,7 @@ rows_ready s m f cut supplied = record {
 -- one series of those that are ready
 module _ (t : Terms) (previous day : ℕ) (m : Meaning) (collateral : List ℕ) (r : Series) (rs : List Series) (below : Below m) (ready : RowsReady t m (r ∷ rs)) where
   abbrev o : SeriesOutcome
-  o = series_outcome m r.cells collateral r.contract.right t.size t.block (expires previous day r)
+  o = series_outcome m r.cells collateral r.contract.right t.size t.block (expires r.contract previous day)
 
   here : RowReady r.cells
   here = ready.each 0 (omega arith)
@@ -61,8 +62,8 @@ module _ (t : Terms) (previous day : ℕ) (m : Meaning) (collateral : List ℕ) 
     supplied = omega (arith, supplies);
   }
 
-  pub settled_here : SeriesSettled m r.cells collateral t.block (expires previous day r) o
-  settled_here = series_settled m r.cells collateral r.contract.right t.size t.block (expires previous day r) below assignable
+  pub settled_here : SeriesSettled m r.cells collateral t.block (expires r.contract previous day) o
+  settled_here = series_settled m r.cells collateral r.contract.right t.size t.block (expires r.contract previous day) below assignable
 
   pub ready_then : RowsReady t o.source rs
   ready_then = record {
@@ -113,7 +114,7 @@ module _ (t : Terms) (previous day : ℕ) (m₀ : Meaning) (c₀ : List ℕ) (ro
     next_assignable = assignable t previous day m c r (drop (i + 1) rows₀) below here_ready
 
     abbrev out : SeriesOutcome
-    out = series_outcome m r.cells c r.contract.right t.size t.block (expires previous day r)
+    out = series_outcome m r.cells c r.contract.right t.size t.block (expires r.contract previous day)
 
     pub going_more : Going t previous day m₀ c₀ rows₀ out.source out.collateral (set rows i (record { contract = r.contract; cells = out.cells })) (i + 1)
     going_more =
@@ -137,7 +138,7 @@ module _ (t : Terms) (previous day : ℕ) (m₀ : Meaning) (c₀ : List ℕ) (ro
             cc e
 
     -- as the code has it
-    pub going_next : (lapses : Bool) (m' : Meaning) (c' : List ℕ) (cells : List Cell) → lapses ≡ expires previous day r
+    pub going_next : (lapses : Bool) (m' : Meaning) (c' : List ℕ) (cells : List Cell) → lapses ≡ expires r.contract previous day
         → m' ≡ (series_outcome m r.cells c r.contract.right t.size t.block lapses).source
         → c' ≡ (series_outcome m r.cells c r.contract.right t.size t.block lapses).collateral
         → cells ≡ (series_outcome m r.cells c r.contract.right t.size t.block lapses).cells

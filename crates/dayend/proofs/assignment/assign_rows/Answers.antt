@@ -8,4 +8,4 @@ assign_series-requires g c = next_assignable _ _ _ _ _ _ _ _ _ c.loop-row.row-in
 pub loop-row-preserved : goal.loop-row-preserved
 loop-row-preserved g c =
     let a = c.assign_series.ensures in
-    going_next _ _ _ _ _ _ _ _ _ c.loop-row.row-index (g.S.Draws.below c.loop-row.source) c.loop-row.invariant (omega (arith, c.told-rows)) c.expires-lapses.result _ _ _ c.expires-lapses.ensures a.source a.collateral a.cells
+    going_next _ _ _ _ _ _ _ _ _ c.loop-row.row-index (g.S.Draws.below c.loop-row.source) c.loop-row.invariant (omega (arith, c.told-rows)) c.expires.result _ _ _ c.expires.ensures a.source a.collateral a.cells
