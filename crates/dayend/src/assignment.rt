@@ -4,19 +4,12 @@ ghost use Rattle.settlement.specs.Assignment.{total_due, draws_for};
 ghost use Rattle.ledger.specs.declared.state.Stage.TheVariants.{Cut};
 ghost use Rattle.ledger.specs.Tables.{past_series};
 ghost use Rattle.exercise.specs.Criteria.{with_collateral};
-ghost use Rattle.dayend.specs.Assignment.{needed, assignment_checks, expires, RowsReady, assigned_rows, lodged_shares, with_shares, assigning, assigned_state};
+ghost use Rattle.dayend.specs.Assignment.{needed, assignment_checks, RowsReady, assigned_rows, lodged_shares, with_shares, assigning, assigned_state};
 
 use draws::Draws;
 use ledger::{Account, Ledger, Refusal, Series, Stage, Terms};
 use settlement::{AssignmentTerms, assign_series, draws_for_series};
 use std::array;
-
-// Whether the series expires on the day.
-pub(crate) fn expires(row: &Series, previous: u32, day: u32) -> bool
-    ensures { result ≡ expires previous day row.now }
-{
-    previous < row.contract.expiry && row.contract.expiry <= day
-}
 
 // Assigns each series in rising number.
 fn assign_rows<S: Draws>(
@@ -33,12 +26,11 @@ fn assign_rows<S: Draws>(
     ensures source { S.meaning source.new ≡ (assigned_rows terms.now previous day (S.meaning source.old) collateral.old rows.old).source }
 {
     for row in rows.iter_mut() {
-        let lapses = expires(row, previous, day);
         let terms = AssignmentTerms {
             right: row.contract.right,
             size: terms.size,
             block: terms.block,
-            lapses,
+            lapses: row.contract.expires(previous, day),
         };
         assign_series(source, &mut row.cells, collateral, &terms);
     }
