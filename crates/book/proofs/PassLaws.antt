@@ -51,13 +51,14 @@ pub misfit : (b : Bool) (r : Refusal) → Err r ≡ answered (unless b PassMisfi
 misfit true r e = absurd (cc e)
 misfit false r e = (refl, cc)
 
--- that it fits, so that the book is in the input stage
-admitted : (b : Bool) → Ok tt ≡ answered (unless b PassMisfit None) → b ≡ true
-admitted true e = refl
-admitted false e = absurd (cc e)
+-- that nothing stands against it
+pub accepted : (o : Option Refusal) → Ok tt ≡ answered o → o ≡ None
+accepted None e = refl
+accepted (Some r) e = absurd (cc e)
 
+-- that the pass fits, so that the book is in the input stage
 pub in_input_stage : (b d : Ledger) (p : InputPass) → b ≡ d → Ok tt ≡ answered (unless (fits_input d.state p) PassMisfit None) → b.state.stage ≡ Input
-in_input_stage b d p e h = rw e (input_stage d.state p (admitted _ h))
+in_input_stage b d p e h = rw e (input_stage d.state p (unless_none _ PassMisfit None (accepted _ h)).0)
 
 -- that it fits, and the refusal of another check
 pub turned_back : (b : Bool) (o : Option Refusal) (r : Refusal) → Ok tt ≡ answered (unless b PassMisfit None) → Err r ≡ answered o → unless b PassMisfit o ≡ Some r

@@ -1,8 +1,7 @@
-use Rattle.std.proofs.Common.{rules, sym}
-use Rattle.draws.proofs.Passes.{none_from_passed}
+use Rattle.std.proofs.Common.{rules}
 use Rattle.ledger.proofs.FactLaws.{facts, sound_at}
 use Rattle.exercise.proofs.CriteriaLaws.{settable, settable_placed, facts_criterion}
-use Rattle.book.proofs.PassLaws.{misfit, turned_back}
+use Rattle.book.proofs.PassLaws.{accepted, misfit, turned_back}
 use Rattle.book.proofs.book.Book.criterion.Goals as goal
 
 pub returns-in_err-admit : goal.returns-in_err-admit
@@ -14,7 +13,7 @@ returns-in_err-check_criterion c = let h = turned_back _ _ _ c.in_ok-admit.ensur
 pub set_criterion-requires : goal.set_criterion-requires
 set_criterion-requires c =
     let b = c.self.inside.ledger in
-    settable_placed b.state c.args.account c.args.right c.args.form c.args.value (facts b.state b.sound) (settable b.state c.args.account c.args.right c.args.form c.args.value (none_from_passed _ (sym c.in_ok-check_criterion.ensures)))
+    settable_placed b.state c.args.account c.args.right c.args.form c.args.value (facts b.state b.sound) (settable b.state c.args.account c.args.right c.args.form c.args.value (accepted _ c.in_ok-check_criterion.ensures))
 
 pub invariant_of-self-inside : goal.invariant_of-self-inside
 invariant_of-self-inside c =

@@ -1,8 +1,7 @@
-use Rattle.std.proofs.Common.{rules, sym}
-use Rattle.draws.proofs.Passes.{none_from_passed}
+use Rattle.std.proofs.Common.{rules}
 use Rattle.ledger.proofs.FactLaws.{facts, sound_at}
 use Rattle.transfers.proofs.PositionLaws.{transferable, facts_moved}
-use Rattle.book.proofs.PassLaws.{in_input_stage, turned_back}
+use Rattle.book.proofs.PassLaws.{accepted, in_input_stage, turned_back}
 use Rattle.book.proofs.book.Book.position_transfer.Goals as goal
 
 pub returns-in_err-check_position : goal.returns-in_err-check_position
@@ -14,4 +13,4 @@ move_position-requires-clause-sound c = let b = c.self.inside.ledger in facts b.
 pub invariant_of-self-inside : goal.invariant_of-self-inside
 invariant_of-self-inside c =
     let b = c.self.inside.ledger in
-    record { sound = sound_at _ _ c.move_position.ensures (facts_moved b.state c.args.t.now (facts b.state b.sound) (in_input_stage b _ c.args.pass.now c.self.view_is c.in_ok-admit.ensures) (transferable b.state c.args.t.now (none_from_passed _ (sym c.in_ok-check_position.ensures)))) }
+    record { sound = sound_at _ _ c.move_position.ensures (facts_moved b.state c.args.t.now (facts b.state b.sound) (in_input_stage b _ c.args.pass.now c.self.view_is c.in_ok-admit.ensures) (transferable b.state c.args.t.now (accepted _ c.in_ok-check_position.ensures))) }

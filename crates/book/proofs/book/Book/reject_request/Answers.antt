@@ -1,13 +1,12 @@
-use Rattle.std.proofs.Common.{sym}
-use Rattle.draws.proofs.Passes.{none_from_passed}
 use Rattle.ledger.proofs.FactLaws.{facts, sound_at}
 use Rattle.exercise.proofs.RequestLaws.{rejectable, request_placed, facts_request_rejected}
+use Rattle.book.proofs.PassLaws.{accepted}
 use Rattle.book.proofs.book.Book.reject_request.Goals as goal
 
 pub reject_request-requires : goal.reject_request-requires
 reject_request-requires c =
     let b = c.self.inside.ledger in
-    let r = rejectable b.state c.args.request (none_from_passed _ (sym c.in_ok-check_rejection.ensures)) in
+    let r = rejectable b.state c.args.request (accepted _ c.in_ok-check_rejection.ensures) in
     (r.from, request_placed b.state c.args.request (facts b.state b.sound) r)
 
 pub invariant_of-self-inside : goal.invariant_of-self-inside

@@ -1,8 +1,7 @@
-use Rattle.std.proofs.Common.{rules, sym}
-use Rattle.draws.proofs.Passes.{none_from_passed}
+use Rattle.std.proofs.Common.{rules}
 use Rattle.ledger.proofs.FactLaws.{facts, sound_at}
 use Rattle.dealing.proofs.OpenLaws.{facts_series_added}
-use Rattle.book.proofs.PassLaws.{in_input_stage, turned_back}
+use Rattle.book.proofs.PassLaws.{accepted, in_input_stage, turned_back}
 use Rattle.book.proofs.book.Book.series.Goals as goal
 
 pub check_series-requires : goal.check_series-requires
@@ -14,4 +13,4 @@ returns-in_err-check_series c = let h = turned_back _ _ _ c.in_ok-admit.ensures 
 pub invariant_of-self-inside : goal.invariant_of-self-inside
 invariant_of-self-inside c =
     let b = c.self.inside.ledger in
-    record { sound = sound_at _ _ c.add_series.ensures.after (facts_series_added b.state c.args.right c.args.strike c.args.expiry (facts b.state b.sound) (in_input_stage b _ c.args.pass.now c.self.view_is c.in_ok-admit.ensures) (none_from_passed _ (sym c.in_ok-check_series.ensures))) }
+    record { sound = sound_at _ _ c.add_series.ensures.after (facts_series_added b.state c.args.right c.args.strike c.args.expiry (facts b.state b.sound) (in_input_stage b _ c.args.pass.now c.self.view_is c.in_ok-admit.ensures) (accepted _ c.in_ok-check_series.ensures)) }

@@ -1,8 +1,7 @@
-use Rattle.std.proofs.Common.{rules, sym}
-use Rattle.draws.proofs.Passes.{none_from_passed}
+use Rattle.std.proofs.Common.{rules}
 use Rattle.ledger.proofs.FactLaws.{facts, sound_at}
 use Rattle.dealing.proofs.TradeLaws.{admitted as tradable, facts_traded}
-use Rattle.book.proofs.PassLaws.{in_input_stage, misfit, turned_back}
+use Rattle.book.proofs.PassLaws.{accepted, in_input_stage, misfit, turned_back}
 use Rattle.book.proofs.book.Book.trade.Goals as goal
 
 pub returns-in_err-admit : goal.returns-in_err-admit
@@ -17,4 +16,4 @@ book_trade-requires-clause-sound c = let b = c.self.inside.ledger in facts b.sta
 pub invariant_of-self-inside : goal.invariant_of-self-inside
 invariant_of-self-inside c =
     let b = c.self.inside.ledger in
-    record { sound = sound_at _ _ c.book_trade.ensures.after (facts_traded b.state c.args.t.now (facts b.state b.sound) (in_input_stage b _ c.args.pass.now c.self.view_is c.in_ok-admit.ensures) (tradable b.state c.args.t.now (none_from_passed _ (sym c.in_ok-check_trade.ensures)))) }
+    record { sound = sound_at _ _ c.book_trade.ensures.after (facts_traded b.state c.args.t.now (facts b.state b.sound) (in_input_stage b _ c.args.pass.now c.self.view_is c.in_ok-admit.ensures) (tradable b.state c.args.t.now (accepted _ c.in_ok-check_trade.ensures))) }
