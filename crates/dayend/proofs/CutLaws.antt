@@ -12,14 +12,14 @@ use Rattle.positions.specs.Rows.{total_longs}
 use Rattle.positions.proofs.CellLaws.{netting, due_le}
 use Rattle.positions.proofs.PlaceLaws.{each_length, each_at, each_keeps, sums_even, sum_falls, sum_stays}
 use Rattle.ledger.specs.declared.state.Series.{Series}
-use Rattle.ledger.specs.declared.state.Stage.TheVariants.{Input}
 use Rattle.ledger.specs.declared.state.State.{State}
 use Rattle.ledger.specs.Tables.{row, cells_of, account_of, past_series}
 use Rattle.ledger.specs.Lookups.{has_series, expiring}
 use Rattle.dayend.specs.Cutoff.{any_expiring, cut_checks, asked, automatic, cut_cell, cut_cells, cut_series, cut}
-use Rattle.ledger.specs.Sound.{Balanced, Waiting, ValidLeg, Facts}
+use Rattle.ledger.specs.Sound.{Balanced, ValidLeg, Facts}
 use Rattle.ledger.proofs.FactLaws.{within_parts}
 use Rattle.dayend.proofs.CutSteps.{expiring_hit}
+use Rattle.dayend.proofs.StatementLaws.{covered_of}
 
 -- ── an accepted cut ──
 
@@ -109,7 +109,7 @@ cut_leg s k = each_keeps (λ (at : ℕ) (l : Leg). stepped l event.Cut) SameLeg 
 
 -- ── what every book keeps ──
 
-module _ (s : State) (f : Facts s) (input : s.stage ≡ Input) where
+module _ (s : State) (f : Facts s) where
   even_cells : (i : ℕ) (cells : List Cell) → Balanced cells → Balanced (cut_cells s i cells)
   even_cells i cells b =
       let g : ℕ → Cell → Cell = λ at c. cut_cell s i (at + 1) c in
@@ -122,8 +122,8 @@ module _ (s : State) (f : Facts s) (input : s.stage ≡ Input) where
   waits : (i j : ℕ) → ((get_or (cells_of (cut s) i) j no_cell).due ≤ (get_or (cells_of (cut s) i) j no_cell).longs) × ((get_or (cells_of (cut s) i) j no_cell).covered ≤ (get_or (cells_of (cut s) i) j no_cell).assigned)
   waits i j =
       let k = cut_at s i j in
-      let w = subst (λ g. Waiting g (get_or (cells_of s i) j no_cell)) input (f.waiting i j) in
-      (k.due, omega (arith, k.covered, k.assigned, w.1))
+      let w = covered_of s.stage (get_or (cells_of s i) j no_cell) (f.waiting i j) in
+      (k.due, omega (arith, k.covered, k.assigned, w))
 
   still_none : (i : ℕ) (cells : List Cell) → total_longs cells ≡ 0 → total_longs (cut_cells s i cells) ≡ 0
   still_none i cells h =

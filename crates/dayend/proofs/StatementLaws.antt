@@ -18,7 +18,7 @@ use Rattle.ledger.specs.Sound.{Facts, Waiting}
 
 -- ── counts that a line can hold ──
 
-covered_of : (g : Stage) (c : Cell) → Waiting g c → c.covered ≤ c.assigned
+pub covered_of : (g : Stage) (c : Cell) → Waiting g c → c.covered ≤ c.assigned
 covered_of Input c w = w.1
 covered_of Cut c w = w.1
 covered_of Assigned c w = w.1

@@ -12,11 +12,10 @@ use Rattle.ledger.specs.declared.refusal.Refusal.{Refusal}
 use Rattle.ledger.specs.declared.refusal.Refusal.TheVariants.{NoFixingPrice}
 use Rattle.ledger.specs.declared.state.Contract.{Contract}
 use Rattle.ledger.specs.declared.state.Request.{Request}
-use Rattle.ledger.specs.declared.state.Requests.{Requests}
 use Rattle.ledger.specs.declared.state.Series.{Series}
 use Rattle.ledger.specs.declared.state.Stage.TheVariants as stage
 use Rattle.ledger.specs.declared.state.State.{State}
-use Rattle.ledger.specs.Tables.{row, account_of}
+use Rattle.ledger.specs.Tables.{Requests, row, account_of}
 use Rattle.ledger.specs.Lookups.{expiring}
 use Rattle.exercise.specs.Criteria.{criterion_of}
 

@@ -1,14 +1,13 @@
 ghost use Rattle.std.specs.Prelude.{◌≡◌, ℕ, ◌<◌, ◌≤◌, length, sum_by, slice_index_or};
-ghost use Rattle.draws.specs.Checks.{first_refusal};
+ghost use Rattle.draws.specs.Checks.{checked};
 ghost use Rattle.settlement.specs.Assignment.{total_due, draws_for};
 ghost use Rattle.ledger.specs.declared.state.Stage.TheVariants.{Cut};
 ghost use Rattle.ledger.specs.Tables.{past_series};
 ghost use Rattle.exercise.specs.Criteria.{with_collateral};
 ghost use Rattle.dayend.specs.Assignment.{needed, assignment_checks, expires, RowsReady, assigned_rows, lodged_shares, with_shares, assigning, assigned_state};
-ghost use Rattle.ledger.specs.Sound.{Facts};
 
 use draws::Draws;
-use ledger::{Account, Refusal, Series, Stage, State, Terms};
+use ledger::{Account, Ledger, Refusal, Series, Stage, Terms};
 use settlement::{assign_series, draws_for_series};
 
 // The draws that all series need.
@@ -92,49 +91,46 @@ fn put_collateral(accounts: &mut [Account; 32], shares: &[u32; 32])
 }
 
 // The draws that the assignment needs.
-fn needed(book: &State) -> u32
-    requires sound { Facts book.now }
-    requires cut { book.now.stage ≡ Cut }
-    ensures { result ≡ needed book.now }
+fn needed(book: &Ledger) -> u32
+    requires { book.now.state.stage ≡ Cut }
+    ensures { result ≡ needed book.now.state }
 {
-    draws_needed(&book.series.rows, book.terms.block)
+    draws_needed(&book.state.series.rows, book.state.terms.block)
 }
 
 // Why an assignment is turned back, if it is.
-pub fn refuse_assignment<S: Draws>(book: &State, source: &S) -> Option<Refusal>
-    requires sound { Facts book.now }
-    requires cut { book.now.stage ≡ Cut }
-    ensures { result ≡ first_refusal (assignment_checks book.now (S.meaning source.now)) }
+pub fn check_assignment<S: Draws>(book: &Ledger, source: &S) -> Result<(), Refusal>
+    requires { book.now.state.stage ≡ Cut }
+    ensures { result ≡ checked (assignment_checks book.now.state (S.meaning source.now)) }
 {
     let needed = needed(book);
     if source.supply() < u64::from(needed) {
-        return Some(Refusal::DrawsShort(needed));
+        return Err(Refusal::DrawsShort(needed));
     }
-    None
+    Ok(())
 }
 
 // Exercises what is due and assigns it, series by series, and answers the draws used.
-pub fn assign<S: Draws>(book: &mut State, source: &mut S) -> u32
-    requires sound { Facts book.old }
-    requires cut { book.old.stage ≡ Cut }
-    requires supplied { needed book.old ≤ (S.meaning source.old).supply }
-    ensures used { result ≡ needed book.old }
-    ensures after { book.new ≡ assigned_state book.old (S.meaning source.old) }
-    ensures source { S.meaning source.new ≡ (assigning book.old (S.meaning source.old)).source }
+pub fn assign<S: Draws>(book: &mut Ledger, source: &mut S) -> u32
+    requires cut { book.old.state.stage ≡ Cut }
+    requires supplied { needed book.old.state ≤ (S.meaning source.old).supply }
+    ensures used { result ≡ needed book.old.state }
+    ensures after { book.new.state ≡ assigned_state book.old.state (S.meaning source.old) }
+    ensures source { S.meaning source.new ≡ (assigning book.old.state (S.meaning source.old)).source }
 {
     let used = needed(book);
     let mut shares = [0; 32];
-    list_collateral(&book.accounts.rows, &mut shares);
-    let terms = book.terms;
+    list_collateral(&book.state.accounts.rows, &mut shares);
+    let terms = book.state.terms;
     assign_rows(
         source,
-        &mut book.series.rows,
+        &mut book.state.series.rows,
         &mut shares,
         &terms,
-        book.previous,
-        book.day,
+        book.state.previous,
+        book.state.day,
     );
-    put_collateral(&mut book.accounts.rows, &shares);
-    book.stage = Stage::Assigned;
+    put_collateral(&mut book.state.accounts.rows, &shares);
+    book.state.stage = Stage::Assigned;
     used
 }

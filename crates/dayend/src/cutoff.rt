@@ -1,12 +1,12 @@
 ghost use Rattle.std.specs.Prelude.{◌≡◌, ℕ, ◌+◌, ◌<◌, ◌≤◌, length, slice_index, slice_index_or};
-ghost use Rattle.draws.specs.Checks.{first_refusal};
+ghost use Rattle.draws.specs.Checks.{checked};
 ghost use Rattle.positions.specs.Places.{each};
 ghost use Rattle.ledger.specs.Tables.{no_request, cells_of, with_listing, with_cells};
 ghost use Rattle.dayend.specs.Cutoff.{any_expiring, cut_checks, asks, asked, AsksAt, automatic, cut_cell, cut_cells, cut_series, cut_legs, cut};
 ghost use Rattle.ledger.specs.Sound.{AllAsked, Facts};
 
 use exercise::criterion;
-use ledger::{Refusal, Request, Requests, Stage, State};
+use ledger::{Ledger, Refusal, Request, Requests, Stage, State};
 use positions::{Cell, Leg, LegEvent};
 
 // The place of the account that a pending request in the series asks for.
@@ -62,14 +62,13 @@ fn any_expiring(book: &State) -> bool
 }
 
 // Why the cut is turned back, if it is.
-pub fn refuse_cut(book: &State) -> Option<Refusal>
-    requires { Facts book.now }
-    ensures { result ≡ first_refusal (cut_checks book.now) }
+pub fn check_cut(book: &Ledger) -> Result<(), Refusal>
+    ensures { result ≡ checked (cut_checks book.now.state) }
 {
-    if any_expiring(book) && !book.fixing.is_some() {
-        return Some(Refusal::NoFixingPrice);
+    if any_expiring(&book.state) && book.state.fixing.is_none() {
+        return Err(Refusal::NoFixingPrice);
     }
-    None
+    Ok(())
 }
 
 // Whether the account's longs in the series are exercised without a request.
@@ -105,13 +104,12 @@ fn cut_cell(book: &State, series: u32, account: u32, wanted: u32, cell: &Cell) -
 }
 
 // Nets the positions, sets what is due, and frees held legs.
-pub fn cut(book: &mut State)
-    requires { Facts book.old }
-    ensures { book.new ≡ cut book.old }
+pub fn cut(book: &mut Ledger)
+    ensures { book.new.state ≡ cut book.old.state }
 {
-    cut_rows(book);
-    cut_legs(&mut book.legs.rows);
-    book.stage = Stage::Cut;
+    cut_rows(&mut book.state);
+    cut_legs(&mut book.state.legs.rows);
+    book.state.stage = Stage::Cut;
 }
 
 // The series at a place. The cut leaves a cell with neither longs nor contracts due as it is.
@@ -148,7 +146,7 @@ fn cut_rows(book: &mut State)
 fn cut_legs(legs: &mut [Leg; 256])
     ensures { legs.new ≡ cut_legs legs.old }
 {
-    for i in 0..256usize {
-        legs[i].step(LegEvent::Cut);
+    for leg in legs.iter_mut() {
+        leg.step(LegEvent::Cut);
     }
 }

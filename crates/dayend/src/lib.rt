@@ -6,7 +6,7 @@ mod cutoff;
 mod new_day;
 mod statement;
 
-pub use assignment::{assign, refuse_assignment};
-pub use cutoff::{cut, refuse_cut};
-pub use new_day::{next_day, refuse_next_day};
-pub use statement::{refuse_statement, write_statement};
+pub use assignment::{assign, check_assignment};
+pub use cutoff::{check_cut, cut};
+pub use new_day::{check_next_day, next_day};
+pub use statement::{check_statement, write_statement};

@@ -1,5 +1,5 @@
 ghost use Rattle.std.specs.Prelude.{◌≡◌};
-ghost use Rattle.draws.specs.Checks.{first_refusal};
+ghost use Rattle.draws.specs.Checks.{checked};
 ghost use Rattle.positions.specs.Places.{each};
 ghost use Rattle.dayend.specs.NextDay.{next_day_checks, carried_cells, carried_series, next_day};
 
@@ -10,31 +10,30 @@ use positions::{Cell, Leg};
 fn carry_cells(cells: &mut [Cell; 32])
     ensures { cells.new ≡ carried_cells cells.old }
 {
-    for a in 0..32usize {
-        let cell = cells[a];
-        cells[a] = cell.carried();
+    for cell in cells.iter_mut() {
+        *cell = cell.carried();
     }
 }
 
 fn carry_rows(rows: &mut [Series; 32])
     ensures { rows.new ≡ each (λ _ r. carried_series r) rows.old }
 {
-    for i in 0..32usize {
-        carry_cells(&mut rows[i].cells);
+    for row in rows.iter_mut() {
+        carry_cells(&mut row.cells);
     }
 }
 
 // Why the next day is turned back, if it is.
-pub fn refuse_next_day(book: &State, day: u32) -> Option<Refusal>
-    ensures { result ≡ first_refusal (next_day_checks book.now day) }
+pub fn check_next_day(book: &State, day: u32) -> Result<(), Refusal>
+    ensures { result ≡ checked (next_day_checks book.now day) }
 {
     if !is_within(day, 1, 99_999) {
-        return Some(Refusal::OutOfRange);
+        return Err(Refusal::OutOfRange);
     }
     if day <= book.day {
-        return Some(Refusal::DayNotLater);
+        return Err(Refusal::DayNotLater);
     }
-    None
+    Ok(())
 }
 
 // Begins the day: positions, accounts and series are carried over, the rest starts anew.

@@ -1,12 +1,11 @@
 ghost use Rattle.std.specs.Prelude.{◌≡◌, ℕ, ◌+◌, ◌<◌, ◌≤◌, length, get_or, slice_index_or};
-ghost use Rattle.draws.specs.Checks.{first_refusal};
+ghost use Rattle.draws.specs.Checks.{checked};
 ghost use Rattle.positions.specs.Cells.{no_cell};
 ghost use Rattle.settlement.specs.Lines.{Countable, written};
 ghost use Rattle.ledger.specs.Tables.{past_series};
 ghost use Rattle.dayend.specs.Statement.{first_lines, statement_lines, rows_needed, places_needed, statement_checks};
-ghost use Rattle.ledger.specs.Sound.{Facts};
 
-use ledger::{Refusal, Series, State};
+use ledger::{Ledger, Refusal, Series};
 use settlement::{Line, SeriesTerms, count_series, write_series};
 
 // How many lines the statement has.
@@ -56,23 +55,22 @@ fn write_lines(lines: &mut [Line], rows: &[Series; 32], size: u32, day: u32) -> 
 }
 
 // Why a statement is turned back, if it is.
-pub fn refuse_statement(book: &State, room: usize) -> Option<Refusal>
-    requires { Facts book.now }
-    ensures { result ≡ first_refusal (statement_checks book.now room) }
+pub fn check_statement(book: &Ledger, room: usize) -> Result<(), Refusal>
+    ensures { result ≡ checked (statement_checks book.now.state room) }
 {
-    let needed = count_lines(&book.series.rows);
+    let needed = count_lines(&book.state.series.rows);
     if needed > room {
-        return Some(Refusal::StatementShort(needed as u32));
+        return Err(Refusal::StatementShort(needed as u32));
     }
-    None
+    Ok(())
 }
 
 // Writes the statement from the first place on, and answers how many lines it has.
-pub fn write_statement(book: &State, lines: &mut [Line]) -> u32
-    requires sound { Facts book.now }
-    requires fits { places_needed book.now ≤ length lines.old }
-    ensures count { result ≡ places_needed book.now }
-    ensures after { lines.new ≡ written lines.old 0 (statement_lines book.now) }
+pub fn write_statement(book: &Ledger, lines: &mut [Line]) -> u32
+    requires { places_needed book.now.state ≤ length lines.old }
+    ensures count { result ≡ places_needed book.now.state }
+    ensures after { lines.new ≡ written lines.old 0 (statement_lines book.now.state) }
 {
-    write_lines(lines, &book.series.rows, book.terms.size, book.day) as u32
+    let state = &book.state;
+    write_lines(lines, &state.series.rows, state.terms.size, state.day) as u32
 }

@@ -5,9 +5,8 @@ use Rattle.ledger.specs.declared.refusal.Refusal.{Refusal}
 use Rattle.ledger.specs.declared.refusal.Refusal.TheVariants.{OutOfRange, ListedAlready, Full}
 use Rattle.ledger.specs.declared.state.Contract.{Contract}
 use Rattle.ledger.specs.declared.state.Series.{Series}
-use Rattle.ledger.specs.declared.state.Listing.{Listing}
 use Rattle.ledger.specs.declared.state.State.{State}
-use Rattle.ledger.specs.Tables.{new_account, new_series, with_accounts, with_listing, one_account_more, one_series_more}
+use Rattle.ledger.specs.Tables.{Listing, new_account, new_series, with_accounts, with_listing, one_account_more, one_series_more}
 use Rattle.ledger.specs.Lookups.{within}
 
 -- ── opening ──

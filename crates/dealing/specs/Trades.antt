@@ -3,7 +3,9 @@ use Rattle.std.specs.Prelude.{ℕ, ◌+◌, ◌-◌, Bool, not, ◌&&◌, List, 
 use Rattle.positions.specs.declared.cell.Cell.{Cell}
 use Rattle.positions.specs.declared.leg.Leg.{Leg}
 use Rattle.positions.specs.declared.leg.LegState.TheVariants.{Free}
+use Rattle.positions.specs.declared.kinds.Side.{Side}
 use Rattle.positions.specs.declared.kinds.Side.TheVariants.{Buy, Sell}
+use Rattle.positions.specs.declared.kinds.Effect.{Effect}
 use Rattle.positions.specs.Kinds.{effect_of_code}
 use Rattle.positions.specs.Cells.{no_cell, closing}
 use Rattle.positions.specs.Rows.{placed, total_longs}
@@ -18,28 +20,53 @@ use Rattle.dealing.specs.declared.trades.Fill.{Fill}
 abbrev pub trade_in_range : Trade → Bool
 trade_in_range t = within t.buyer_effect 1 2 && (within t.seller_effect 1 2 && (within t.quantity 1 100_000 && within t.price 1 1_000_000))
 
+-- ── one side of a trade ──
+
+abbrev pub account_on : Side → Trade → ℕ
+account_on Buy t = t.buyer
+account_on Sell t = t.seller
+
+abbrev pub effect_on : Side → Trade → Effect
+effect_on Buy t = effect_of_code t.buyer_effect
+effect_on Sell t = effect_of_code t.seller_effect
+
+-- the side's leg, with its closed part
+abbrev pub leg_on : Side → Trade → ℕ → Leg
+leg_on side t closed = record { account = account_on side t; series = t.series; side = side; effect = effect_on side t; quantity = t.quantity; closed = closed; price = t.price; state = Free }
+
+-- the cells with the side's leg booked, and that leg's closed part
+abbrev pub placed_on : Side → Trade → List Cell → List Cell
+placed_on side t cells = placed cells (account_on side t - 1) side (effect_on side t) t.quantity
+
+abbrev pub closed_on : Side → Trade → List Cell → ℕ
+closed_on side t cells = closing (slice_index_or cells (account_on side t - 1) no_cell) side (effect_on side t) t.quantity
+
+abbrev pub buyer_leg : Trade → ℕ → Leg
+buyer_leg t closed = leg_on Buy t closed
+
+abbrev pub seller_leg : Trade → ℕ → Leg
+seller_leg t closed = leg_on Sell t closed
+
+-- ── both sides ──
+
 -- the cells when the buyer's leg is booked
-abbrev pub bought_cells : State → Trade → List Cell
-bought_cells s t = placed (cells_of s (t.series - 1)) (t.buyer - 1) Buy (effect_of_code t.buyer_effect) t.quantity
+abbrev pub bought_in : List Cell → Trade → List Cell
+bought_in cells t = placed_on Buy t cells
 
 -- the buyer's leg is booked, then the seller's
-abbrev pub fill_of : State → Trade → Fill
-fill_of s t = record {
-  cells = placed (bought_cells s t) (t.seller - 1) Sell (effect_of_code t.seller_effect) t.quantity;
-  bought = closing (slice_index_or (cells_of s (t.series - 1)) (t.buyer - 1) no_cell) Buy (effect_of_code t.buyer_effect) t.quantity;
-  sold = closing (slice_index_or (bought_cells s t) (t.seller - 1) no_cell) Sell (effect_of_code t.seller_effect) t.quantity;
-}
-
--- the same of cells that stand alone
-abbrev pub bought_in : List Cell → Trade → List Cell
-bought_in cells t = placed cells (t.buyer - 1) Buy (effect_of_code t.buyer_effect) t.quantity
-
 abbrev pub fill_in : List Cell → Trade → Fill
 fill_in cells t = record {
-  cells = placed (bought_in cells t) (t.seller - 1) Sell (effect_of_code t.seller_effect) t.quantity;
-  bought = closing (slice_index_or cells (t.buyer - 1) no_cell) Buy (effect_of_code t.buyer_effect) t.quantity;
-  sold = closing (slice_index_or (bought_in cells t) (t.seller - 1) no_cell) Sell (effect_of_code t.seller_effect) t.quantity;
+  cells = placed_on Sell t (bought_in cells t);
+  bought = closed_on Buy t cells;
+  sold = closed_on Sell t (bought_in cells t);
 }
+
+-- the same in the cells of a book
+abbrev pub bought_cells : State → Trade → List Cell
+bought_cells s t = bought_in (cells_of s (t.series - 1)) t
+
+abbrev pub fill_of : State → Trade → Fill
+fill_of s t = fill_in (cells_of s (t.series - 1)) t
 
 abbrev pub trade_checks : State → Trade → List (Bool × Refusal)
 trade_checks s t =
@@ -51,12 +78,6 @@ trade_checks s t =
     ∷ (nat_le (s.legs.count + 2) 256, Full)
     ∷ (nat_le (total_longs (fill_of s t).cells) 100_000, TooMany)
     ∷ []
-
-abbrev pub buyer_leg : Trade → ℕ → Leg
-buyer_leg t closed = record { account = t.buyer; series = t.series; side = Buy; effect = effect_of_code t.buyer_effect; quantity = t.quantity; closed = closed; price = t.price; state = Free }
-
-abbrev pub seller_leg : Trade → ℕ → Leg
-seller_leg t closed = record { account = t.seller; series = t.series; side = Sell; effect = effect_of_code t.seller_effect; quantity = t.quantity; closed = closed; price = t.price; state = Free }
 
 -- the book with the trade: the series' cells, and two legs more
 abbrev pub traded : State → Trade → State

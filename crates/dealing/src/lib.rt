@@ -5,7 +5,6 @@ mod listings;
 mod trades;
 
 pub use listings::{
-    add_account, add_series, contract_of, is_same, lists, refuse_account, refuse_open,
-    refuse_series,
+    add_account, add_series, check_account, check_open, check_series, contract_of, is_same, lists,
 };
-pub use trades::{Fill, book_trade, refuse_trade};
+pub use trades::{Fill, book_trade, check_trade};

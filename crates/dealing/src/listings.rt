@@ -1,22 +1,22 @@
 ghost use Rattle.std.specs.Prelude.{◌≡◌, ◌+◌, ◌<◌, ◌≤◌};
-ghost use Rattle.draws.specs.Checks.{first_refusal};
+ghost use Rattle.draws.specs.Checks.{checked};
 ghost use Rattle.dealing.specs.Listings.{open_checks, account_checks, account_added, contract_of, same_contract, listed, series_checks, series_added};
 
 use ledger::{Account, Contract, Listing, Refusal, Series, State, is_within};
 use positions::{AccountType, Cell, Right};
 
 // Why an opening is turned back, if it is.
-pub fn refuse_open(number: u32, day: u32, size: u32, block: u32) -> Option<Refusal>
-    ensures { result ≡ first_refusal (open_checks number day size block) }
+pub fn check_open(number: u32, day: u32, size: u32, block: u32) -> Result<(), Refusal>
+    ensures { result ≡ checked (open_checks number day size block) }
 {
     if !is_within(number, 1, 9_999)
         || !is_within(day, 1, 99_999)
         || !is_within(size, 1, 10_000)
         || !is_within(block, 1, 1_000)
     {
-        return Some(Refusal::OutOfRange);
+        return Err(Refusal::OutOfRange);
     }
-    None
+    Ok(())
 }
 
 pub fn contract_of(right: u32, strike: u32, expiry: u32) -> Contract
@@ -49,16 +49,16 @@ pub fn lists(listing: &Listing, contract: &Contract) -> bool
 }
 
 // Why an account is turned back, if it is.
-pub fn refuse_account(book: &State, participant: u32, code: u32) -> Option<Refusal>
-    ensures { result ≡ first_refusal (account_checks book.now participant code) }
+pub fn check_account(book: &State, participant: u32, code: u32) -> Result<(), Refusal>
+    ensures { result ≡ checked (account_checks book.now participant code) }
 {
     if !is_within(participant, 1, 99) || !is_within(code, 1, 4) {
-        return Some(Refusal::OutOfRange);
+        return Err(Refusal::OutOfRange);
     }
     if book.accounts.count >= 32 {
-        return Some(Refusal::Full);
+        return Err(Refusal::Full);
     }
-    None
+    Ok(())
 }
 
 // Adds an account, and answers its number.
@@ -77,24 +77,24 @@ pub fn add_account(book: &mut State, participant: u32, code: u32) -> u32
 }
 
 // Why a series is turned back, if it is.
-pub fn refuse_series(book: &State, right: u32, strike: u32, expiry: u32) -> Option<Refusal>
+pub fn check_series(book: &State, right: u32, strike: u32, expiry: u32) -> Result<(), Refusal>
     requires { book.now.series.count ≤ 32 }
-    ensures { result ≡ first_refusal (series_checks book.now right strike expiry) }
+    ensures { result ≡ checked (series_checks book.now right strike expiry) }
 {
     if !is_within(right, 1, 2)
         || !is_within(strike, 1, 1_000_000)
         || !is_within(expiry, book.day, 99_999)
     {
-        return Some(Refusal::OutOfRange);
+        return Err(Refusal::OutOfRange);
     }
     let contract = contract_of(right, strike, expiry);
     if lists(&book.series, &contract) {
-        return Some(Refusal::ListedAlready);
+        return Err(Refusal::ListedAlready);
     }
     if book.series.count >= 32 {
-        return Some(Refusal::Full);
+        return Err(Refusal::Full);
     }
-    None
+    Ok(())
 }
 
 // Lists a series, and answers its number.

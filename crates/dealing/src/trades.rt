@@ -1,11 +1,11 @@
 ghost use Rattle.std.specs.Prelude.{◌≡◌, ◌+◌, ◌≤◌, true};
-ghost use Rattle.draws.specs.Checks.{first_refusal};
+ghost use Rattle.draws.specs.Checks.{checked};
 ghost use Rattle.positions.specs.Rows.{total_longs, Below};
 ghost use Rattle.ledger.specs.Lookups.{has_account, has_series};
-ghost use Rattle.dealing.specs.Trades.{trade_in_range, fill_in, fill_of, trade_checks, buyer_leg, seller_leg, traded};
+ghost use Rattle.dealing.specs.Trades.{trade_in_range, account_on, leg_on, placed_on, closed_on, buyer_leg, seller_leg, fill_in, fill_of, trade_checks, traded};
 ghost use Rattle.ledger.specs.Sound.{Facts};
 
-use ledger::{Refusal, State, Trade, is_within};
+use ledger::{Ledger, Refusal, State, Trade, is_within};
 use positions::{Cell, Effect, Leg, LegState, Side, place, total_longs};
 
 // What a trade does to its series: the cells after it, and the closed part of each leg.
@@ -25,119 +25,103 @@ fn in_range(t: &Trade) -> bool
         && is_within(t.price, 1, 1_000_000)
 }
 
-fn buyer_leg(t: &Trade, closed: u32) -> Leg
-    ensures { result ≡ buyer_leg t.now closed }
+// One side's leg of a trade, before any of it is closed.
+fn leg_on(side: Side, t: &Trade) -> Leg
+    ensures { result ≡ leg_on side t.now 0 }
 {
+    let (account, effect) = match side {
+        Side::Buy => (t.buyer, t.buyer_effect),
+        Side::Sell => (t.seller, t.seller_effect),
+    };
     Leg {
-        account: t.buyer,
+        account,
         series: t.series,
-        side: Side::Buy,
-        effect: Effect::of_code(t.buyer_effect),
+        side,
+        effect: Effect::of_code(effect),
         quantity: t.quantity,
-        closed,
+        closed: 0,
         price: t.price,
         state: LegState::Free,
     }
 }
 
-fn seller_leg(t: &Trade, closed: u32) -> Leg
-    ensures { result ≡ seller_leg t.now closed }
+// Books one side's leg in the cells of a series, and answers the leg.
+fn place_leg(cells: &mut [Cell; 32], side: Side, t: &Trade) -> Leg
+    requires account { (1 ≤ account_on side t.now) × (account_on side t.now ≤ 32) }
+    requires small { Below cells.old 300_000 }
+    requires few { t.now.quantity ≤ 100_000 }
+    ensures leg { result ≡ leg_on side t.now (closed_on side t.now cells.old) }
+    ensures after { cells.new ≡ placed_on side t.now cells.old }
 {
-    Leg {
-        account: t.seller,
-        series: t.series,
-        side: Side::Sell,
-        effect: Effect::of_code(t.seller_effect),
-        quantity: t.quantity,
-        closed,
-        price: t.price,
-        state: LegState::Free,
-    }
+    let leg = leg_on(side, t);
+    let closed = place(
+        cells,
+        leg.account as usize - 1,
+        side,
+        leg.effect,
+        leg.quantity,
+    );
+    Leg { closed, ..leg }
 }
 
-// Books both legs in the cells of a series, and answers their closed parts.
-fn place_legs(cells: &mut [Cell; 32], t: &Trade) -> (u32, u32)
+// Books both legs in the cells of a series, the buyer's first, and answers them.
+fn place_legs(cells: &mut [Cell; 32], t: &Trade) -> (Leg, Leg)
     requires buyer { (1 ≤ t.now.buyer) × (t.now.buyer ≤ 32) }
     requires seller { (1 ≤ t.now.seller) × (t.now.seller ≤ 32) }
     requires small { Below cells.old 100_000 }
     requires few { t.now.quantity ≤ 100_000 }
-    ensures closed { result ≡ ((fill_in cells.old t.now).bought, (fill_in cells.old t.now).sold) }
+    ensures legs { result ≡ (buyer_leg t.now (fill_in cells.old t.now).bought, seller_leg t.now (fill_in cells.old t.now).sold) }
     ensures after { cells.new ≡ (fill_in cells.old t.now).cells }
 {
-    let bought = place(
-        cells,
-        t.buyer as usize - 1,
-        Side::Buy,
-        Effect::of_code(t.buyer_effect),
-        t.quantity,
-    );
-    let sold = place(
-        cells,
-        t.seller as usize - 1,
-        Side::Sell,
-        Effect::of_code(t.seller_effect),
-        t.quantity,
-    );
-    (bought, sold)
+    (
+        place_leg(cells, Side::Buy, t),
+        place_leg(cells, Side::Sell, t),
+    )
 }
 
 // Books both legs in a copy of the series' cells.
-fn fill_of(book: &State, t: &Trade) -> Fill
-    requires sound { Facts book.now }
-    requires buyer { has_account book.now t.now.buyer ≡ true }
-    requires seller { has_account book.now t.now.seller ≡ true }
-    requires listed { has_series book.now t.now.series ≡ true }
+fn fill_of(book: &Ledger, t: &Trade) -> Fill
+    requires buyer { has_account book.now.state t.now.buyer ≡ true }
+    requires seller { has_account book.now.state t.now.seller ≡ true }
+    requires listed { has_series book.now.state t.now.series ≡ true }
     requires range { trade_in_range t.now ≡ true }
-    ensures { result ≡ fill_of book.now t.now }
+    ensures { result ≡ fill_of book.now.state t.now }
 {
-    let mut cells = book.cells(t.series as usize - 1);
+    let mut cells = book.state.cells(t.series as usize - 1);
     let (bought, sold) = place_legs(&mut cells, t);
     Fill {
         cells,
-        bought,
-        sold,
+        bought: bought.closed,
+        sold: sold.closed,
     }
-}
-
-// The series' longs with both legs booked.
-fn longs_after(book: &State, t: &Trade) -> u64
-    requires sound { Facts book.now }
-    requires buyer { has_account book.now t.now.buyer ≡ true }
-    requires seller { has_account book.now t.now.seller ≡ true }
-    requires listed { has_series book.now t.now.series ≡ true }
-    requires range { trade_in_range t.now ≡ true }
-    ensures { result ≡ total_longs (fill_of book.now t.now).cells }
-{
-    total_longs(&fill_of(book, t).cells)
 }
 
 // Why a trade is turned back, if it is: the first check that fails.
-pub fn refuse_trade(book: &State, t: &Trade) -> Option<Refusal>
-    requires { Facts book.now }
-    ensures { result ≡ first_refusal (trade_checks book.now t.now) }
+pub fn check_trade(book: &Ledger, t: &Trade) -> Result<(), Refusal>
+    ensures { result ≡ checked (trade_checks book.now.state t.now) }
 {
     if !in_range(t) {
-        return Some(Refusal::OutOfRange);
+        return Err(Refusal::OutOfRange);
     }
-    if !book.has_account(t.buyer) || !book.has_account(t.seller) {
-        return Some(Refusal::NoAccount);
+    if !book.state.has_account(t.buyer) || !book.state.has_account(t.seller) {
+        return Err(Refusal::NoAccount);
     }
-    if !book.has_series(t.series) {
-        return Some(Refusal::NoSeries);
+    if !book.state.has_series(t.series) {
+        return Err(Refusal::NoSeries);
     }
-    if book.expired(t.series) {
-        return Some(Refusal::Expired);
+    if book.state.expired(t.series) {
+        return Err(Refusal::Expired);
     }
-    if !book.trading {
-        return Some(Refusal::TradingClosed);
+    if !book.state.trading {
+        return Err(Refusal::TradingClosed);
     }
-    if book.legs.count + 2 > 256 {
-        return Some(Refusal::Full);
+    if book.state.legs.count + 2 > 256 {
+        return Err(Refusal::Full);
     }
-    if longs_after(book, t) > 100_000 {
-        return Some(Refusal::TooMany);
+    if total_longs(&fill_of(book, t).cells) > 100_000 {
+        return Err(Refusal::TooMany);
     }
-    None
+    Ok(())
 }
 
 // Books both legs, and answers the first one's number.
@@ -152,8 +136,7 @@ pub fn book_trade(book: &mut State, t: &Trade) -> u32
     ensures after { book.new ≡ traded book.old t.now }
 {
     let (bought, sold) = place_legs(&mut book.series.rows[t.series as usize - 1].cells, t);
-    let (first, second) = (buyer_leg(t, bought), seller_leg(t, sold));
-    let number = book.legs.push(first);
-    book.legs.push(second);
+    let number = book.legs.push(bought);
+    book.legs.push(sold);
     number
 }

@@ -27,11 +27,11 @@ pub enum Refusal {
     NoSupply,
 }
 
-impl Refusal {
-    pub fn reply(self) -> Reply
-        ensures { result ≡ reply_of self }
-    {
-        match self {
+impl From<Refusal> for Reply {
+    ghost from_gives = { λ refusal reply. reply ≡ reply_of refusal };
+
+    fn from(refusal: Refusal) -> Reply {
+        match refusal {
             Refusal::ZeroBound => Reply {
                 number: 3,
                 result: 0,

@@ -71,14 +71,14 @@ fn recorder_has_room_for_256(rt: HostRuntime) {
 #[test]
 fn refusals_have_their_numbers(rt: HostRuntime) {
     assert_eq!(rt;
-        Refusal::ZeroBound.reply(),
+        Reply::from(Refusal::ZeroBound),
         Reply {
             number: 3,
             result: 0,
         }
     );
     assert_eq!(rt;
-        Refusal::NoSupply.reply(),
+        Reply::from(Refusal::NoSupply),
         Reply {
             number: 16,
             result: 1,

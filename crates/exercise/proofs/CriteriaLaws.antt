@@ -1,19 +1,15 @@
 -- Accepted criteria, fixing prices and movements of collateral.
-use Rattle.std.proofs.Common.{◌≡◌, ℕ, ◌+◌, ◌-◌, ◌≤◌, true, ◌&&◌, ◌||◌, eqb, None, Option, refl, ◌∙◌, inl, inr, arith, length-set}
+use Rattle.std.proofs.Common.{◌≡◌, ℕ, ◌+◌, ◌-◌, ◌≤◌, true, ◌&&◌, ◌||◌, eqb, None, ◌∙◌, inl, inr, arith, length-set}
 use Rattle.std.proofs.lemmas.Bool.{or_cases, eqb-true, leb-true, cond_both}
 use Rattle.draws.specs.Checks.{first_refusal}
 use Rattle.draws.proofs.Passes.{all_pass}
-use Rattle.positions.specs.declared.criterion.Criterion.{Criterion}
-use Rattle.positions.specs.declared.kinds.Right.{Right}
-use Rattle.positions.specs.declared.kinds.Right.TheVariants.{Call, Put}
-use Rattle.positions.specs.Kinds.{right_of_code}
 use Rattle.positions.proofs.RowLaws.{at_set}
 use Rattle.ledger.specs.declared.state.Account.{Account}
 use Rattle.ledger.specs.declared.state.House.{House}
 use Rattle.ledger.specs.declared.state.State.{State}
 use Rattle.ledger.specs.Tables.{account_of, no_account}
 use Rattle.ledger.specs.Lookups.{within, has_account}
-use Rattle.exercise.specs.Criteria.{form_in_range, criterion_checks, with_house, account_with, with_account, own_of_form, criterion_set, fixing_checks, price_fixed, trading_closed, lodge_checks, lodged, withdrawal_checks, collateral_withdrawn}
+use Rattle.exercise.specs.Criteria.{form_in_range, criterion_checks, with_house, with_account, criterion_set, fixing_checks, price_fixed, trading_closed, lodge_checks, lodged, withdrawal_checks, collateral_withdrawn}
 use Rattle.ledger.specs.Sound.{Facts}
 use Rattle.ledger.proofs.FactLaws.{account_placed}
 
@@ -51,14 +47,10 @@ settable_placed s account right form value f a =
       | inr h ↦ (account_placed s account f h).row
     ]
 
-same_collateral : (a : Account) (right : Right) (k : Option Criterion) → (account_with a right k).collateral ≡ a.collateral
-same_collateral a Call k = refl
-same_collateral a Put k = refl
-
 pub facts_criterion : (s : State) (account right form value : ℕ) → Facts s → Facts (criterion_set s account right form value)
 facts_criterion s account right form value f =
     cond_both (eqb account 0) _ _ Facts (λ h. facts_house s _ f)
-    (λ h. facts_with_account s account _ f (omega (arith, same_collateral (account_of s account) (right_of_code right) (own_of_form form value), f.collateral (account - 1))))
+    (λ h. facts_with_account s account _ f (f.collateral (account - 1)))
 
 -- ── fixing price and the end of trading ──
 

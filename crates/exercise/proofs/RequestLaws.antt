@@ -7,11 +7,10 @@ use Rattle.positions.specs.declared.cell.Cell.{Cell}
 use Rattle.positions.specs.Cells.{no_cell, with_denied}
 use Rattle.positions.proofs.RowLaws.{at_set, sum_kept}
 use Rattle.ledger.specs.declared.state.Request.{Request}
-use Rattle.ledger.specs.declared.state.Requests.{Requests}
 use Rattle.ledger.specs.declared.state.Stage.{Stage}
 use Rattle.ledger.specs.declared.state.Stage.TheVariants.{Input, Cut, Assigned}
 use Rattle.ledger.specs.declared.state.State.{State}
-use Rattle.ledger.specs.Tables.{cells_of, no_request}
+use Rattle.ledger.specs.Tables.{Requests, cells_of, no_request}
 use Rattle.ledger.specs.Lookups.{within, has_account, has_series, expiring}
 use Rattle.exercise.specs.Requests.{with_requests, request_of, request_checks, new_request, request_added, rejection_checks, request_rejected, denial_checks, denial_noted}
 use Rattle.ledger.specs.Sound.{Balanced, Waiting, Facts}
@@ -102,7 +101,7 @@ waiting_denied Input c q w = w
 waiting_denied Cut c q w = w
 waiting_denied Assigned c q w = w
 
-module _ (s : State) (a i q : ℕ) (f : Facts s) (d : Deniable s a i q) where
+module _ (s : State) (a i q : ℕ) (f : Facts s) (known : has_account s a ≡ true) (listed : has_series s i ≡ true) where
   abbrev cells : List Cell
   cells = cells_of s (i - 1)
 
@@ -110,10 +109,10 @@ module _ (s : State) (a i q : ℕ) (f : Facts s) (d : Deniable s a i q) where
   after = set cells (a - 1) (with_denied (get_or cells (a - 1) no_cell) q)
 
   x : Placed a s.accounts.count
-  x = account_placed s a f d.known
+  x = account_placed s a f known
 
   n : Placed i s.series.count
-  n = series_placed s i f d.listed
+  n = series_placed s i f listed
 
   b : Balanced cells
   b = f.balanced (i - 1) (omega (arith, n.from, n.row))

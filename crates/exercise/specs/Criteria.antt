@@ -1,5 +1,5 @@
 -- Criteria of exercise without a request, the fixing price, the end of trading, and collateral.
-use Rattle.std.specs.Prelude.{ℕ, ◌+◌, ◌-◌, Bool, false, cond, not, ◌&&◌, ◌||◌, List, [], ◌∷◌, Some, None, Option, ◌==◌, nat_le, slice_set}
+use Rattle.std.specs.Prelude.{ℕ, ◌+◌, ◌-◌, Bool, false, cond, not, ◌&&◌, ◌||◌, List, [], ◌∷◌, Some, None, Option, unwrap_or, ◌==◌, nat_le, slice_set}
 use Rattle.positions.specs.declared.criterion.Criterion.{Criterion}
 use Rattle.positions.specs.declared.kinds.Right.{Right}
 use Rattle.positions.specs.declared.kinds.Right.TheVariants.{Call, Put}
@@ -15,21 +15,20 @@ use Rattle.ledger.specs.Lookups.{within, has_account}
 
 -- ── whose criterion ──
 
+-- of a value for calls and one for puts, the one for the right
+abbrev pub of_right : {T : Type 0} → Right → T → T → T
+of_right Call calls puts = calls
+of_right Put calls puts = puts
+
 abbrev pub own_criterion : Account → Right → Option Criterion
-own_criterion a Call = a.calls
-own_criterion a Put = a.puts
+own_criterion a right = of_right right a.calls a.puts
 
 abbrev pub house_criterion : House → Right → Criterion
-house_criterion h Call = h.calls
-house_criterion h Put = h.puts
-
-abbrev pub or_else : Option Criterion → Criterion → Criterion
-or_else (Some own) k = own
-or_else None k = k
+house_criterion h right = of_right right h.calls h.puts
 
 -- the account's own, else the house's
 abbrev pub criterion_of : State → ℕ → Right → Criterion
-criterion_of s n right = or_else (own_criterion (account_of s n) right) (house_criterion s.house right)
+criterion_of s n right = unwrap_or (own_criterion (account_of s n) right) (house_criterion s.house right)
 
 -- ── criterion ──
 
@@ -51,12 +50,10 @@ abbrev pub with_house : State → House → State
 with_house s h = record { terms = s.terms; day = s.day; previous = s.previous; stage = s.stage; trading = s.trading; fixing = s.fixing; house = h; accounts = s.accounts; series = s.series; legs = s.legs; requests = s.requests }
 
 abbrev pub house_with : House → Right → Criterion → House
-house_with h Call k = record { calls = k; puts = h.puts }
-house_with h Put k = record { calls = h.calls; puts = k }
+house_with h right k = record { calls = of_right right k h.calls; puts = of_right right h.puts k }
 
 abbrev pub account_with : Account → Right → Option Criterion → Account
-account_with a Call k = record { participant = a.participant; account_type = a.account_type; collateral = a.collateral; calls = k; puts = a.puts }
-account_with a Put k = record { participant = a.participant; account_type = a.account_type; collateral = a.collateral; calls = a.calls; puts = k }
+account_with a right k = record { participant = a.participant; account_type = a.account_type; collateral = a.collateral; calls = of_right right k a.calls; puts = of_right right a.puts k }
 
 abbrev pub with_account : State → ℕ → Account → State
 with_account s n a = with_accounts s (record { rows = slice_set s.accounts.rows (n - 1) a; count = s.accounts.count })

@@ -1,13 +1,12 @@
 -- Exercise requests, their rejection, and denials.
-use Rattle.std.specs.Prelude.{ℕ, ◌+◌, ◌-◌, Bool, true, false, not, ◌&&◌, List, [], ◌∷◌, nat_le, nat_lt, slice_index_or, slice_set}
+use Rattle.std.specs.Prelude.{ℕ, ◌-◌, Bool, true, false, not, ◌&&◌, List, [], ◌∷◌, nat_le, nat_lt, slice_index_or, slice_set}
 use Rattle.positions.specs.Cells.{with_denied}
 use Rattle.ledger.specs.declared.refusal.Refusal.{Refusal}
 use Rattle.ledger.specs.declared.refusal.Refusal.TheVariants.{OutOfRange, NoAccount, NoSeries, NoRequest, Expired, NotExpiring, Full}
 use Rattle.ledger.specs.declared.state.Request.{Request}
-use Rattle.ledger.specs.declared.state.Requests.{Requests}
 use Rattle.ledger.specs.declared.state.State.{State}
-use Rattle.ledger.specs.Tables.{cells_of, cell_at, no_request, with_cells}
-use Rattle.ledger.specs.Lookups.{within, has_account, has_series, expired, expiring}
+use Rattle.ledger.specs.Tables.{Requests, one_more, cells_of, cell_at, no_request, with_cells}
+use Rattle.ledger.specs.Lookups.{within, has, has_account, has_series, expired, expiring}
 
 abbrev pub with_requests : State → Requests → State
 with_requests s t = record { terms = s.terms; day = s.day; previous = s.previous; stage = s.stage; trading = s.trading; fixing = s.fixing; house = s.house; accounts = s.accounts; series = s.series; legs = s.legs; requests = t }
@@ -30,7 +29,7 @@ abbrev pub new_request : ℕ → ℕ → ℕ → Request
 new_request account series quantity = record { account = account; series = series; quantity = quantity; pending = true }
 
 abbrev pub one_request_more : Requests → Request → Requests
-one_request_more t r = record { rows = slice_set t.rows t.count r; count = t.count + 1 }
+one_request_more t r = one_more t r
 
 abbrev pub request_added : State → ℕ → ℕ → ℕ → State
 request_added s account series quantity = with_requests s (one_request_more s.requests (new_request account series quantity))
@@ -39,7 +38,7 @@ request_added s account series quantity = with_requests s (one_request_more s.re
 
 -- a request of that number, not rejected yet
 abbrev pub has_pending : State → ℕ → Bool
-has_pending s n = within n 1 s.requests.count && (request_of s n).pending
+has_pending s n = has s.requests n && (request_of s n).pending
 
 abbrev pub rejection_checks : State → ℕ → List (Bool × Refusal)
 rejection_checks s n = (has_pending s n, NoRequest) ∷ []

@@ -1,11 +1,10 @@
 ghost use Rattle.std.specs.Prelude.{◌≡◌, ◌+◌, ◌≤◌, true};
-ghost use Rattle.draws.specs.Checks.{first_refusal};
+ghost use Rattle.draws.specs.Checks.{checked};
 ghost use Rattle.ledger.specs.Tables.{account_of};
 ghost use Rattle.ledger.specs.Lookups.{has_account};
-ghost use Rattle.exercise.specs.Criteria.{own_criterion, house_criterion, criterion_of, form_in_range, criterion_checks, house_with, account_with, own_of_form, criterion_set, fixing_checks, price_fixed, trading_closed, lodge_checks, lodged, withdrawal_checks, collateral_withdrawn};
-ghost use Rattle.ledger.specs.Sound.{Facts};
+ghost use Rattle.exercise.specs.Criteria.{of_right, criterion_of, form_in_range, criterion_checks, own_of_form, criterion_set, fixing_checks, price_fixed, trading_closed, lodge_checks, lodged, withdrawal_checks, collateral_withdrawn};
 
-use ledger::{Account, House, Refusal, State, is_within};
+use ledger::{Account, House, Ledger, Refusal, State, is_within};
 use positions::{Criterion, Right};
 
 // Whether a criterion's form and value may stand: form 0 is for accounts alone.
@@ -24,48 +23,27 @@ fn form_in_range(account: u32, form: u32, value: u32) -> bool
 fn own_of_form(form: u32, value: u32) -> Option<Criterion>
     ensures { result ≡ own_of_form form value }
 {
-    if form == 0 {
-        None
-    } else {
-        Some(Criterion::of_form(form, value))
+    (form != 0).then(|| Criterion::of_form(form, value))
+}
+
+// Of a value for calls and one for puts, the one for the right.
+fn of_right<T: Copy>(right: Right, calls: T, puts: T) -> T
+    ensures { result ≡ of_right right calls puts }
+{
+    match right {
+        Right::Call => calls,
+        Right::Put => puts,
     }
 }
 
-// The house's criterion for a right.
-fn house_criterion(house: &House, right: Right) -> Criterion
-    ensures { result ≡ house_criterion house.now right }
+// Sets it.
+fn set_of_right<T: Copy>(right: Right, calls: &mut T, puts: &mut T, value: T)
+    ensures calls { calls.new ≡ of_right right value calls.old }
+    ensures puts { puts.new ≡ of_right right puts.old value }
 {
     match right {
-        Right::Call => house.calls,
-        Right::Put => house.puts,
-    }
-}
-
-fn set_house(house: &mut House, right: Right, criterion: Criterion)
-    ensures { house.new ≡ house_with house.old right criterion }
-{
-    match right {
-        Right::Call => house.calls = criterion,
-        Right::Put => house.puts = criterion,
-    }
-}
-
-// The account's own criterion for a right, if it has one.
-fn own_criterion(account: &Account, right: Right) -> Option<Criterion>
-    ensures { result ≡ own_criterion account.now right }
-{
-    match right {
-        Right::Call => account.calls,
-        Right::Put => account.puts,
-    }
-}
-
-fn set_own(account: &mut Account, right: Right, criterion: Option<Criterion>)
-    ensures { account.new ≡ account_with account.old right criterion }
-{
-    match right {
-        Right::Call => account.calls = criterion,
-        Right::Put => account.puts = criterion,
+        Right::Call => *calls = value,
+        Right::Put => *puts = value,
     }
 }
 
@@ -74,32 +52,31 @@ pub fn criterion(book: &State, account: u32, right: Right) -> Criterion
     requires { (1 ≤ account) × (account ≤ 32) }
     ensures { result ≡ criterion_of book.now account right }
 {
-    match own_criterion(&book.accounts.rows[account as usize - 1], right) {
-        Some(own) => own,
-        None => house_criterion(&book.house, right),
-    }
+    let house = &book.house;
+    let own = &book.accounts.rows[account as usize - 1];
+    of_right(right, own.calls, own.puts).unwrap_or(of_right(right, house.calls, house.puts))
 }
 
 // Why a criterion is turned back, if it is.
-pub fn refuse_criterion(
+pub fn check_criterion(
     book: &State,
     account: u32,
     right: u32,
     form: u32,
     value: u32,
-) -> Option<Refusal>
-    ensures { result ≡ first_refusal (criterion_checks book.now account right form value) }
+) -> Result<(), Refusal>
+    ensures { result ≡ checked (criterion_checks book.now account right form value) }
 {
-    if !is_within(right, 1, 2) || !form_in_range(account, form, value) {
-        return Some(Refusal::OutOfRange);
+    if Right::try_from(right).is_err() || !form_in_range(account, form, value) {
+        return Err(Refusal::OutOfRange);
     }
     if account != 0 && !book.has_account(account) {
-        return Some(Refusal::NoAccount);
+        return Err(Refusal::NoAccount);
     }
     if !book.trading {
-        return Some(Refusal::TradingClosed);
+        return Err(Refusal::TradingClosed);
     }
-    None
+    Ok(())
 }
 
 // Sets the house's criterion for a right, or an account's.
@@ -109,24 +86,22 @@ pub fn set_criterion(book: &mut State, account: u32, right: u32, form: u32, valu
 {
     let right = Right::of_code(right);
     if account == 0 {
-        set_house(&mut book.house, right, Criterion::of_form(form, value));
+        let House { calls, puts } = &mut book.house;
+        set_of_right(right, calls, puts, Criterion::of_form(form, value));
     } else {
-        set_own(
-            &mut book.accounts.rows[account as usize - 1],
-            right,
-            own_of_form(form, value),
-        );
+        let Account { calls, puts, .. } = &mut book.accounts.rows[account as usize - 1];
+        set_of_right(right, calls, puts, own_of_form(form, value));
     }
 }
 
 // Why a fixing price is turned back, if it is.
-pub fn refuse_fixing(price: u32) -> Option<Refusal>
-    ensures { result ≡ first_refusal (fixing_checks price) }
+pub fn check_fixing(price: u32) -> Result<(), Refusal>
+    ensures { result ≡ checked (fixing_checks price) }
 {
     if !is_within(price, 1, 1_000_000) {
-        return Some(Refusal::OutOfRange);
+        return Err(Refusal::OutOfRange);
     }
-    None
+    Ok(())
 }
 
 // Notes the fixing price.
@@ -143,65 +118,60 @@ pub fn close_trading(book: &mut State)
 }
 
 // The shares that are lodged for the account.
-fn collateral(book: &State, account: u32) -> u32
-    requires sound { Facts book.now }
-    requires known { has_account book.now account ≡ true }
-    ensures is { result ≡ (account_of book.now account).collateral }
+fn collateral(book: &Ledger, account: u32) -> u32
+    requires { has_account book.now.state account ≡ true }
+    ensures is { result ≡ (account_of book.now.state account).collateral }
     ensures small { result ≤ 99_999_999 }
 {
-    book.accounts.rows[account as usize - 1].collateral
+    book.state.accounts.rows[account as usize - 1].collateral
 }
 
 // Why shares are not lodged, if they are not.
-pub fn refuse_lodge(book: &State, account: u32, shares: u32) -> Option<Refusal>
-    requires { Facts book.now }
-    ensures { result ≡ first_refusal (lodge_checks book.now account shares) }
+pub fn check_lodge(book: &Ledger, account: u32, shares: u32) -> Result<(), Refusal>
+    ensures { result ≡ checked (lodge_checks book.now.state account shares) }
 {
     if !is_within(shares, 1, 99_999_999) {
-        return Some(Refusal::OutOfRange);
+        return Err(Refusal::OutOfRange);
     }
-    if !book.has_account(account) {
-        return Some(Refusal::NoAccount);
+    if !book.state.has_account(account) {
+        return Err(Refusal::NoAccount);
     }
     if collateral(book, account) + shares > 99_999_999 {
-        return Some(Refusal::TooMany);
+        return Err(Refusal::TooMany);
     }
-    None
+    Ok(())
 }
 
 // Lodges shares for the account.
-pub fn lodge(book: &mut State, account: u32, shares: u32)
-    requires sound { Facts book.old }
-    requires known { has_account book.old account ≡ true }
-    requires room { (account_of book.old account).collateral + shares ≤ 99_999_999 }
-    ensures { book.new ≡ lodged book.old account shares }
+pub fn lodge(book: &mut Ledger, account: u32, shares: u32)
+    requires known { has_account book.old.state account ≡ true }
+    requires room { (account_of book.old.state account).collateral + shares ≤ 99_999_999 }
+    ensures { book.new.state ≡ lodged book.old.state account shares }
 {
-    book.accounts.rows[account as usize - 1].collateral += shares;
+    book.state.accounts.rows[account as usize - 1].collateral += shares;
 }
 
 // Why shares are not withdrawn, if they are not.
-pub fn refuse_withdrawal(book: &State, account: u32, shares: u32) -> Option<Refusal>
-    requires { Facts book.now }
-    ensures { result ≡ first_refusal (withdrawal_checks book.now account shares) }
+pub fn check_withdrawal(book: &Ledger, account: u32, shares: u32) -> Result<(), Refusal>
+    ensures { result ≡ checked (withdrawal_checks book.now.state account shares) }
 {
     if !is_within(shares, 1, 99_999_999) {
-        return Some(Refusal::OutOfRange);
+        return Err(Refusal::OutOfRange);
     }
-    if !book.has_account(account) {
-        return Some(Refusal::NoAccount);
+    if !book.state.has_account(account) {
+        return Err(Refusal::NoAccount);
     }
     if shares > collateral(book, account) {
-        return Some(Refusal::TooFew);
+        return Err(Refusal::TooFew);
     }
-    None
+    Ok(())
 }
 
 // Takes shares of the account's back.
-pub fn withdraw(book: &mut State, account: u32, shares: u32)
-    requires sound { Facts book.old }
-    requires known { has_account book.old account ≡ true }
-    requires there { shares ≤ (account_of book.old account).collateral }
-    ensures { book.new ≡ collateral_withdrawn book.old account shares }
+pub fn withdraw(book: &mut Ledger, account: u32, shares: u32)
+    requires known { has_account book.old.state account ≡ true }
+    requires there { shares ≤ (account_of book.old.state account).collateral }
+    ensures { book.new.state ≡ collateral_withdrawn book.old.state account shares }
 {
-    book.accounts.rows[account as usize - 1].collateral -= shares;
+    book.state.accounts.rows[account as usize - 1].collateral -= shares;
 }

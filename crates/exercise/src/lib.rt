@@ -5,10 +5,9 @@ mod criteria;
 mod requests;
 
 pub use criteria::{
-    close_trading, criterion, fix_price, lodge, refuse_criterion, refuse_fixing, refuse_lodge,
-    refuse_withdrawal, set_criterion, withdraw,
+    check_criterion, check_fixing, check_lodge, check_withdrawal, close_trading, criterion,
+    fix_price, lodge, set_criterion, withdraw,
 };
 pub use requests::{
-    add_request, deny, push_request, refuse_denial, refuse_rejection, refuse_request,
-    reject_request,
+    add_request, check_denial, check_rejection, check_request, deny, reject_request,
 };

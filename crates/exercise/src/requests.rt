@@ -1,43 +1,30 @@
 ghost use Rattle.std.specs.Prelude.{◌≡◌, ◌+◌, ◌<◌, ◌≤◌, true};
-ghost use Rattle.draws.specs.Checks.{first_refusal};
+ghost use Rattle.draws.specs.Checks.{checked};
 ghost use Rattle.ledger.specs.Lookups.{has_account, has_series};
-ghost use Rattle.exercise.specs.Requests.{request_checks, one_request_more, request_added, has_pending, rejection_checks, request_rejected, denial_checks, denial_noted};
-ghost use Rattle.ledger.specs.Sound.{Facts};
+ghost use Rattle.exercise.specs.Requests.{request_checks, request_added, has_pending, rejection_checks, request_rejected, denial_checks, denial_noted};
 
-use ledger::{Refusal, Request, Requests, State, is_within};
-
-// One request more; its number.
-pub fn push_request(requests: &mut Requests, request: Request) -> u32
-    requires { requests.old.count < 128 }
-    ensures number { result ≡ requests.old.count + 1 }
-    ensures after { requests.new ≡ one_request_more requests.old request }
-{
-    requests.rows[requests.count as usize] = request;
-    requests.count += 1;
-    requests.count
-}
+use ledger::{Ledger, Refusal, Request, State, is_within};
 
 // Why an exercise request is turned back, if it is.
-pub fn refuse_request(book: &State, account: u32, series: u32, quantity: u32) -> Option<Refusal>
-    requires { Facts book.now }
-    ensures { result ≡ first_refusal (request_checks book.now account series quantity) }
+pub fn check_request(book: &Ledger, account: u32, series: u32, quantity: u32) -> Result<(), Refusal>
+    ensures { result ≡ checked (request_checks book.now.state account series quantity) }
 {
     if !is_within(quantity, 1, 100_000) {
-        return Some(Refusal::OutOfRange);
+        return Err(Refusal::OutOfRange);
     }
-    if !book.has_account(account) {
-        return Some(Refusal::NoAccount);
+    if !book.state.has_account(account) {
+        return Err(Refusal::NoAccount);
     }
-    if !book.has_series(series) {
-        return Some(Refusal::NoSeries);
+    if !book.state.has_series(series) {
+        return Err(Refusal::NoSeries);
     }
-    if book.expired(series) {
-        return Some(Refusal::Expired);
+    if book.state.expired(series) {
+        return Err(Refusal::Expired);
     }
-    if book.requests.count >= 128 {
-        return Some(Refusal::Full);
+    if book.state.requests.count >= 128 {
+        return Err(Refusal::Full);
     }
-    None
+    Ok(())
 }
 
 // Adds a pending request, and answers its number.
@@ -46,34 +33,29 @@ pub fn add_request(book: &mut State, account: u32, series: u32, quantity: u32) -
     ensures number { result ≡ book.old.requests.count + 1 }
     ensures after { book.new ≡ request_added book.old account series quantity }
 {
-    push_request(
-        &mut book.requests,
-        Request {
-            account,
-            series,
-            quantity,
-            pending: true,
-        },
-    )
+    book.requests.push(Request {
+        account,
+        series,
+        quantity,
+        pending: true,
+    })
 }
 
 // Whether there is such a request, not rejected yet.
-fn has_pending(book: &State, n: u32) -> bool
-    requires { Facts book.now }
-    ensures { result ≡ has_pending book.now n }
+fn has_pending(book: &Ledger, n: u32) -> bool
+    ensures { result ≡ has_pending book.now.state n }
 {
-    is_within(n, 1, book.requests.count) && book.requests.rows[n as usize - 1].pending
+    book.state.requests.has(n) && book.state.requests.rows[n as usize - 1].pending
 }
 
 // Why a request's rejection is turned back, if it is.
-pub fn refuse_rejection(book: &State, n: u32) -> Option<Refusal>
-    requires { Facts book.now }
-    ensures { result ≡ first_refusal (rejection_checks book.now n) }
+pub fn check_rejection(book: &Ledger, n: u32) -> Result<(), Refusal>
+    ensures { result ≡ checked (rejection_checks book.now.state n) }
 {
     if !has_pending(book, n) {
-        return Some(Refusal::NoRequest);
+        return Err(Refusal::NoRequest);
     }
-    None
+    Ok(())
 }
 
 // Rejects the request.
@@ -85,35 +67,33 @@ pub fn reject_request(book: &mut State, n: u32)
 }
 
 // Why a denial is turned back, if it is.
-pub fn refuse_denial(book: &State, account: u32, series: u32, quantity: u32) -> Option<Refusal>
-    requires { Facts book.now }
-    ensures { result ≡ first_refusal (denial_checks book.now account series quantity) }
+pub fn check_denial(book: &Ledger, account: u32, series: u32, quantity: u32) -> Result<(), Refusal>
+    ensures { result ≡ checked (denial_checks book.now.state account series quantity) }
 {
     if quantity > 100_000 {
-        return Some(Refusal::OutOfRange);
+        return Err(Refusal::OutOfRange);
     }
-    if !book.has_account(account) {
-        return Some(Refusal::NoAccount);
+    if !book.state.has_account(account) {
+        return Err(Refusal::NoAccount);
     }
-    if !book.has_series(series) {
-        return Some(Refusal::NoSeries);
+    if !book.state.has_series(series) {
+        return Err(Refusal::NoSeries);
     }
-    if book.expired(series) {
-        return Some(Refusal::Expired);
+    if book.state.expired(series) {
+        return Err(Refusal::Expired);
     }
-    if !book.expiring(series) {
-        return Some(Refusal::NotExpiring);
+    if !book.state.expiring(series) {
+        return Err(Refusal::NotExpiring);
     }
-    None
+    Ok(())
 }
 
 // Notes how many of the account's contracts are not to be exercised without a request.
-pub fn deny(book: &mut State, account: u32, series: u32, quantity: u32)
-    requires sound { Facts book.old }
-    requires known { has_account book.old account ≡ true }
-    requires listed { has_series book.old series ≡ true }
-    ensures { book.new ≡ denial_noted book.old account series quantity }
+pub fn deny(book: &mut Ledger, account: u32, series: u32, quantity: u32)
+    requires known { has_account book.old.state account ≡ true }
+    requires listed { has_series book.old.state series ≡ true }
+    ensures { book.new.state ≡ denial_noted book.old.state account series quantity }
 {
-    let cell = book.cell(account, series);
-    book.series.rows[series as usize - 1].cells[account as usize - 1] = cell.with_denied(quantity);
+    let cell = &mut book.state.series.rows[series as usize - 1].cells[account as usize - 1];
+    *cell = cell.with_denied(quantity);
 }

@@ -1,5 +1,5 @@
 -- What every book keeps, put to use.
-use Rattle.std.proofs.Common.{◌≡◌, ℕ, ◌-◌, ◌<◌, ◌≤◌, true, leb, List, length, get_or, inl, inr, arith}
+use Rattle.std.proofs.Common.{◌≡◌, ℕ, ◌-◌, ◌<◌, ◌≤◌, true, leb, List, length, get_or, sym, subst, inl, inr, arith}
 use mathlib.Core.Logic.{∥∥₁_elim}
 use denote.Struct.Props.{props}
 use Rattle.std.proofs.lemmas.List.{get_or_past}
@@ -65,6 +65,10 @@ facts_prop s p q = λ i. record {
 
 pub facts : (s : State) → Sound s → Facts s
 facts s t = ∥∥₁_elim t (facts_prop s) (λ f. f)
+
+-- a book whose state is t is sound where t is
+pub sound_at : (s t : State) → s ≡ t → Facts t → Sound s
+sound_at s t e f = subst Sound (sym e) ∣ f ∣₁
 
 -- ── look-ups ──
 

@@ -9,12 +9,11 @@ use Rattle.positions.specs.Rows.{total_longs}
 use Rattle.positions.proofs.RowLaws.{at_set}
 use Rattle.ledger.specs.declared.state.Account.{Account}
 use Rattle.ledger.specs.declared.state.Contract.{Contract}
-use Rattle.ledger.specs.declared.state.Legs.{Legs}
 use Rattle.ledger.specs.declared.state.Request.{Request}
 use Rattle.ledger.specs.declared.state.Series.{Series}
 use Rattle.ledger.specs.declared.state.State.{State}
 use Rattle.ledger.specs.declared.state.Stage.TheVariants.{Input}
-use Rattle.ledger.specs.Tables.{no_account, no_contract, new_series, past_series, no_request, opening, with_accounts, with_listing, with_legs, with_cells, one_account_more, one_series_more}
+use Rattle.ledger.specs.Tables.{Legs, no_account, no_contract, new_series, past_series, no_request, opening, with_accounts, with_listing, with_legs, with_cells, one_account_more, one_series_more}
 use Rattle.ledger.specs.Sound.{Balanced, Waiting, Known, ValidLeg, Facts}
 
 -- ── the opening ──

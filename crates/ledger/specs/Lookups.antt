@@ -3,20 +3,24 @@ use Rattle.std.specs.Prelude.{ℕ, ◌-◌, Bool, true, false, not, ◌&&◌, �
 use Rattle.positions.specs.declared.leg.LegState.{LegState}
 use Rattle.positions.specs.declared.leg.LegState.TheVariants.{Free, Held}
 use Rattle.ledger.specs.declared.state.State.{State}
+use Rattle.ledger.specs.declared.state.Table.{Table}
 use Rattle.ledger.specs.Tables.{row, account_of}
 
 abbrev pub within : ℕ → ℕ → ℕ → Bool
 within n low high = nat_le low n && nat_le n high
 
--- accounts, series and legs are numbered from 1
+-- rows are numbered from 1
+abbrev pub has : {T : Type 0} {size : ℕ} → Table T size → ℕ → Bool
+has t n = within n 1 t.count
+
 abbrev pub has_account : State → ℕ → Bool
-has_account s n = within n 1 s.accounts.count
+has_account s n = has s.accounts n
 
 abbrev pub has_series : State → ℕ → Bool
-has_series s n = within n 1 s.series.count
+has_series s n = has s.series n
 
 abbrev pub has_leg : State → ℕ → Bool
-has_leg s n = within n 1 s.legs.count
+has_leg s n = has s.legs n
 
 -- a series expires on the first book day that is not before its expiry; it has expired when that was an earlier day
 abbrev pub expired : State → ℕ → Bool

@@ -11,13 +11,25 @@ use Rattle.positions.specs.Cells.{no_cell}
 use Rattle.positions.specs.Legs.{no_leg, rebooked, stepped}
 use Rattle.ledger.specs.declared.state.Stage.TheVariants as stage
 use Rattle.ledger.specs.declared.state.Account.{Account}
-use Rattle.ledger.specs.declared.state.Accounts.{Accounts}
 use Rattle.ledger.specs.declared.state.Contract.{Contract}
 use Rattle.ledger.specs.declared.state.Series.{Series}
-use Rattle.ledger.specs.declared.state.Listing.{Listing}
-use Rattle.ledger.specs.declared.state.Legs.{Legs}
 use Rattle.ledger.specs.declared.state.Request.{Request}
 use Rattle.ledger.specs.declared.state.State.{State}
+use Rattle.ledger.specs.declared.state.Table.{Table}
+
+-- ── the tables ──
+
+abbrev pub Accounts : Type 0
+Accounts = Table Account 32
+
+abbrev pub Listing : Type 0
+Listing = Table Series 32
+
+abbrev pub Legs : Type 0
+Legs = Table Leg 256
+
+abbrev pub Requests : Type 0
+Requests = Table Request 128
 
 -- ── rows ──
 
@@ -92,14 +104,17 @@ with_cells s at cells = with_listing s (record { rows = slice_set s.series.rows 
 
 -- ── a table with one row more, or changed ──
 
+abbrev pub one_more : {T : Type 0} {size : ℕ} → Table T size → T → Table T size
+one_more t r = record { rows = slice_set t.rows t.count r; count = t.count + 1 }
+
 abbrev pub one_account_more : Accounts → Account → Accounts
-one_account_more t a = record { rows = slice_set t.rows t.count a; count = t.count + 1 }
+one_account_more t a = one_more t a
 
 abbrev pub one_series_more : Listing → Series → Listing
-one_series_more t r = record { rows = slice_set t.rows t.count r; count = t.count + 1 }
+one_series_more t r = one_more t r
 
 abbrev pub one_leg_more : Legs → Leg → Legs
-one_leg_more t l = record { rows = slice_set t.rows t.count l; count = t.count + 1 }
+one_leg_more t l = one_more t l
 
 abbrev pub leg_rebooked : Legs → ℕ → ℕ → ℕ → Legs
 leg_rebooked t at account closed = record { rows = slice_set t.rows at (rebooked (slice_index_or t.rows at no_leg) account closed); count = t.count }

@@ -12,5 +12,5 @@ pub use lookups::{is_free, is_held_for, is_within};
 pub use refusal::Refusal;
 pub use state::{
     Account, Accounts, Contract, House, Legs, Listing, PositionTransfer, Request, Requests, Series,
-    Stage, State, Terms, Trade,
+    Stage, State, Table, Terms, Trade,
 };

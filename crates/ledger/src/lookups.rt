@@ -8,46 +8,40 @@ use positions::{Cell, LegState};
 pub fn is_within(n: u32, low: u32, high: u32) -> bool
     ensures { result ≡ within n low high }
 {
-    low <= n && n <= high
+    (low..=high).contains(&n)
 }
 
 // Whether a leg may be given up or transferred.
 pub fn is_free(state: LegState) -> bool
     ensures { result ≡ is_free state }
 {
-    match state {
-        LegState::Free => true,
-        LegState::Held(_) => false,
-    }
+    state == LegState::Free
 }
 
 // Whether a leg is held for the participant.
 pub fn is_held_for(state: LegState, participant: u32) -> bool
     ensures { result ≡ held_for state participant }
 {
-    match state {
-        LegState::Free => false,
-        LegState::Held(held) => held == participant,
-    }
+    state == LegState::Held(participant)
 }
 
 impl State {
     pub fn has_account(&self, n: u32) -> bool
         ensures { result ≡ has_account self.now n }
     {
-        is_within(n, 1, self.accounts.count)
+        self.accounts.has(n)
     }
 
     pub fn has_series(&self, n: u32) -> bool
         ensures { result ≡ has_series self.now n }
     {
-        is_within(n, 1, self.series.count)
+        self.series.has(n)
     }
 
     pub fn has_leg(&self, n: u32) -> bool
         ensures { result ≡ has_leg self.now n }
     {
-        is_within(n, 1, self.legs.count)
+        self.legs.has(n)
     }
 
     // Whether the series expired on an earlier day.

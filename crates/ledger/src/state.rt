@@ -1,7 +1,7 @@
 use positions::{AccountType, Cell, Criterion, Leg, Right};
 
 // The day's three stages.
-#[derive(Clone, Copy)]
+#[derive(Clone, Copy, Debug, PartialEq, Eq)]
 pub enum Stage {
     Input,
     Cut,
@@ -9,7 +9,7 @@ pub enum Stage {
 }
 
 // What is fixed at the opening.
-#[derive(Clone, Copy)]
+#[derive(Clone, Copy, Debug, PartialEq, Eq)]
 pub struct Terms {
     pub number: u32,
     pub size: u32,
@@ -17,7 +17,7 @@ pub struct Terms {
 }
 
 // An account: a criterion of its own for calls and for puts, or none, which is the house's.
-#[derive(Clone, Copy)]
+#[derive(Clone, Copy, Debug, PartialEq, Eq)]
 pub struct Account {
     pub participant: u32,
     pub account_type: AccountType,
@@ -26,7 +26,7 @@ pub struct Account {
     pub puts: Option<Criterion>,
 }
 
-#[derive(Clone, Copy)]
+#[derive(Clone, Copy, Debug, PartialEq, Eq)]
 pub struct Contract {
     pub right: Right,
     pub strike: u32,
@@ -34,14 +34,14 @@ pub struct Contract {
 }
 
 // A series: its terms, and a cell for each account.
-#[derive(Clone, Copy)]
+#[derive(Clone, Copy, Debug, PartialEq, Eq)]
 pub struct Series {
     pub contract: Contract,
     pub cells: [Cell; 32],
 }
 
 // An exercise request, pending until it is rejected.
-#[derive(Clone, Copy)]
+#[derive(Clone, Copy, Debug, PartialEq, Eq)]
 pub struct Request {
     pub account: u32,
     pub series: u32,
@@ -49,39 +49,30 @@ pub struct Request {
     pub pending: bool,
 }
 
-#[derive(Clone, Copy)]
-pub struct Accounts {
-    pub rows: [Account; 32],
+// Up to N rows, of which the first `count` are in use. Rows are numbered from 1.
+#[derive(Clone, Copy, Debug, PartialEq, Eq)]
+pub struct Table<T, const N: usize> {
+    pub rows: [T; N],
     pub count: u32,
 }
 
-#[derive(Clone, Copy)]
-pub struct Listing {
-    pub rows: [Series; 32],
-    pub count: u32,
-}
+pub type Accounts = Table<Account, 32>;
 
-#[derive(Clone, Copy)]
-pub struct Legs {
-    pub rows: [Leg; 256],
-    pub count: u32,
-}
+pub type Listing = Table<Series, 32>;
 
-#[derive(Clone, Copy)]
-pub struct Requests {
-    pub rows: [Request; 128],
-    pub count: u32,
-}
+pub type Legs = Table<Leg, 256>;
+
+pub type Requests = Table<Request, 128>;
 
 // The house's criteria.
-#[derive(Clone, Copy)]
+#[derive(Clone, Copy, Debug, PartialEq, Eq)]
 pub struct House {
     pub calls: Criterion,
     pub puts: Criterion,
 }
 
 // The book of one underlying stock on one day. `previous` is the book's last day before this one, 0 on its first.
-#[derive(Clone, Copy)]
+#[derive(Clone, Copy, Debug, PartialEq, Eq)]
 pub struct State {
     pub terms: Terms,
     pub day: u32,
@@ -97,7 +88,7 @@ pub struct State {
 }
 
 // A trade as it is called in: numbers of the series and of two accounts, and for each account an effect's code.
-#[derive(Clone, Copy)]
+#[derive(Clone, Copy, Debug, PartialEq, Eq)]
 pub struct Trade {
     pub series: u32,
     pub buyer: u32,
@@ -109,7 +100,7 @@ pub struct Trade {
 }
 
 // A position transfer as it is called in.
-#[derive(Clone, Copy)]
+#[derive(Clone, Copy, Debug, PartialEq, Eq)]
 pub struct PositionTransfer {
     pub from: u32,
     pub to: u32,

@@ -1,6 +1,8 @@
-ghost use Rattle.std.specs.Prelude.{◌≡◌, ◌+◌, ◌<◌};
-ghost use Rattle.ledger.specs.Tables.{opening, cells_of, with_cells, one_account_more, one_series_more, one_leg_more, leg_rebooked, leg_stepped};
+ghost use Rattle.std.specs.Prelude.{◌≡◌, ◌+◌, ◌<◌, ◌≤◌};
+ghost use Rattle.ledger.specs.Tables.{opening, cells_of, with_cells, one_more, leg_rebooked, leg_stepped};
+ghost use Rattle.ledger.specs.Lookups.{has};
 
+use crate::lookups::is_within;
 use crate::state::*;
 use positions::{AccountType, Cell, Criterion, Leg, LegEvent, Right};
 
@@ -30,7 +32,7 @@ impl State {
                 calls: Criterion::Amount(1),
                 puts: Criterion::Amount(1),
             },
-            accounts: Accounts {
+            accounts: Table {
                 rows: [Account {
                     participant: 0,
                     account_type: AccountType::House,
@@ -40,18 +42,18 @@ impl State {
                 }; 32],
                 count: 0,
             },
-            series: Listing {
+            series: Table {
                 rows: [Series {
                     contract: NO_CONTRACT,
                     cells: [Cell::empty(); 32],
                 }; 32],
                 count: 0,
             },
-            legs: Legs {
+            legs: Table {
                 rows: [Leg::empty(); 256],
                 count: 0,
             },
-            requests: Requests {
+            requests: Table {
                 rows: [Request {
                     account: 0,
                     series: 0,
@@ -80,44 +82,27 @@ impl State {
     }
 }
 
-impl Accounts {
-    // One account more; its number.
-    pub fn push(&mut self, account: Account) -> u32
-        requires { self.old.count < 32 }
-        ensures number { result ≡ self.old.count + 1 }
-        ensures after { self.new ≡ one_account_more self.old account }
+impl<T: Copy, const N: usize> Table<T, N> {
+    // Whether there is a row of that number.
+    pub fn has(&self, n: u32) -> bool
+        ensures { result ≡ has self.now n }
     {
-        self.rows[self.count as usize] = account;
-        self.count += 1;
-        self.count
+        is_within(n, 1, self.count)
     }
-}
 
-impl Listing {
-    // One series more; its number.
-    pub fn push(&mut self, series: Series) -> u32
-        requires { self.old.count < 32 }
+    // One row more; its number.
+    pub fn push(&mut self, row: T) -> u32
+        requires { (self.old.count < N) × (N ≤ 4_294_967_295) }
         ensures number { result ≡ self.old.count + 1 }
-        ensures after { self.new ≡ one_series_more self.old series }
+        ensures after { self.new ≡ one_more self.old row }
     {
-        self.rows[self.count as usize] = series;
+        self.rows[self.count as usize] = row;
         self.count += 1;
         self.count
     }
 }
 
 impl Legs {
-    // One leg more; its number.
-    pub fn push(&mut self, leg: Leg) -> u32
-        requires { self.old.count < 256 }
-        ensures number { result ≡ self.old.count + 1 }
-        ensures after { self.new ≡ one_leg_more self.old leg }
-    {
-        self.rows[self.count as usize] = leg;
-        self.count += 1;
-        self.count
-    }
-
     // Books the leg at a place anew in another account.
     pub fn rebook(&mut self, at: usize, account: u32, closed: u32)
         requires { at < 256 }

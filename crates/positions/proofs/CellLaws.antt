@@ -1,5 +1,5 @@
 -- What a leg, a transfer or a move does to one cell's longs and shorts.
-use Rattle.std.proofs.Common.{◌≡◌, ℕ, ◌+◌, ◌-◌, ◌≤◌, min, Bool, refl, ap, arith}
+use Rattle.std.proofs.Common.{◌≡◌, ℕ, ◌+◌, ◌≤◌, min, Bool, refl, ap, arith}
 use Rattle.positions.specs.declared.cell.Cell.{Cell}
 use Rattle.positions.specs.declared.kinds.AccountType.{AccountType}
 use Rattle.positions.specs.declared.kinds.AccountType.TheVariants.{House, MarketMaker, IndividualClient, OmnibusClient}
@@ -7,7 +7,7 @@ use Rattle.positions.specs.declared.kinds.Side.{Side}
 use Rattle.positions.specs.declared.kinds.Side.TheVariants.{Buy, Sell}
 use Rattle.positions.specs.declared.kinds.Effect.{Effect}
 use Rattle.positions.specs.declared.kinds.Effect.TheVariants.{Opening, Closing}
-use Rattle.positions.specs.Cells.{closing, booked, unbooked, given, received, on_side, netted, with_due, undenied}
+use Rattle.positions.specs.Cells.{closing, booked, unbooked, netted, with_due, undenied}
 
 pub closing_le : (c : Cell) (side : Side) (e : Effect) (q : ℕ) → closing c side e q ≤ q
 closing_le c side Opening q = omega arith

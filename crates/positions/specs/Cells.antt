@@ -1,5 +1,5 @@
 -- One account's contracts in one series.
-use Rattle.std.specs.Prelude.{ℕ, ◌+◌, ◌-◌, min, Bool, cond}
+use Rattle.std.specs.Prelude.{ℕ, ◌+◌, ◌-◌, ◌≤◌, min, Bool, cond}
 use Rattle.positions.specs.declared.kinds.Side.{Side}
 use Rattle.positions.specs.declared.kinds.Side.TheVariants.{Buy, Sell}
 use Rattle.positions.specs.declared.kinds.Effect.{Effect}
@@ -14,6 +14,10 @@ no_cell = record { longs = 0; shorts = 0; denied = 0; due = 0; exercised = 0; as
 
 abbrev pub with_sides : Cell → ℕ → ℕ → Cell
 with_sides c longs shorts = record { longs = longs; shorts = shorts; denied = c.denied; due = c.due; exercised = c.exercised; assigned = c.assigned; covered = c.covered }
+
+-- no more than m longs or shorts
+abbrev pub AtMost : Cell → ℕ → Type 0
+AtMost c m = (c.longs ≤ m) × (c.shorts ≤ m)
 
 -- the contracts on a side
 abbrev pub on_side : Side → Cell → ℕ

@@ -8,7 +8,7 @@ use Rattle.positions.specs.declared.leg.LegEvent.{LegEvent}
 use Rattle.positions.specs.declared.leg.LegEvent.TheVariants.{GiveUp, Confirm, Reject, Cut}
 use Rattle.positions.specs.declared.kinds.Side.TheVariants.{Buy}
 use Rattle.positions.specs.declared.kinds.Effect.TheVariants.{Opening}
-use Rattle.positions.specs.Cells.{on_side, unbooked}
+use Rattle.positions.specs.Cells.{unbooked}
 
 abbrev pub no_leg : Leg
 no_leg = record { account = 0; series = 0; side = Buy; effect = Opening; quantity = 0; closed = 0; price = 0; state = Free }

@@ -1,9 +1,9 @@
 -- The cells of one series, one for each account, by place.
-use Rattle.std.specs.Prelude.{ℕ, ◌≤◌, List, get_or, sum_by, slice_index_or, slice_set}
+use Rattle.std.specs.Prelude.{ℕ, List, get_or, sum_by, slice_index_or, slice_set}
 use Rattle.positions.specs.declared.cell.Cell.{Cell}
 use Rattle.positions.specs.declared.kinds.Side.{Side}
 use Rattle.positions.specs.declared.kinds.Effect.{Effect}
-use Rattle.positions.specs.Cells.{no_cell, booked}
+use Rattle.positions.specs.Cells.{no_cell, booked, AtMost}
 
 abbrev pub total_longs : List Cell → ℕ
 total_longs cells = sum_by (λ c. c.longs) cells
@@ -17,4 +17,4 @@ placed cells at side e q = slice_set cells at (booked (slice_index_or cells at n
 
 -- no cell has more than m longs or shorts
 abbrev pub Below : List Cell → ℕ → Type 0
-Below cells m = (j : ℕ) → ((get_or cells j no_cell).longs ≤ m) × ((get_or cells j no_cell).shorts ≤ m)
+Below cells m = (j : ℕ) → AtMost (get_or cells j no_cell) m

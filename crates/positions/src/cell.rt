@@ -1,10 +1,10 @@
 ghost use Rattle.std.specs.Prelude.{◌≡◌, ◌≤◌};
-ghost use Rattle.positions.specs.Cells.{no_cell, with_sides, on_side, closing, booked, unbooked, given, received, with_denied, netted, undenied, with_due, carried};
+ghost use Rattle.positions.specs.Cells.{no_cell, with_sides, on_side, closing, booked, unbooked, given, received, with_denied, netted, undenied, with_due, carried, AtMost};
 
 use crate::kinds::{AccountType, Effect, Side};
 
 // One account's contracts in one series.
-#[derive(Clone, Copy)]
+#[derive(Clone, Copy, Debug, Default, PartialEq, Eq)]
 pub struct Cell {
     pub longs: u32,
     pub shorts: u32,
@@ -19,15 +19,7 @@ impl Cell {
     pub fn empty() -> Cell
         ensures { result ≡ no_cell }
     {
-        Cell {
-            longs: 0,
-            shorts: 0,
-            denied: 0,
-            due: 0,
-            exercised: 0,
-            assigned: 0,
-            covered: 0,
-        }
+        Cell::default()
     }
 
     // The cell with other longs and shorts.
@@ -37,11 +29,7 @@ impl Cell {
         Cell {
             longs,
             shorts,
-            denied: self.denied,
-            due: self.due,
-            exercised: self.exercised,
-            assigned: self.assigned,
-            covered: self.covered,
+            ..*self
         }
     }
 
@@ -68,7 +56,8 @@ impl Cell {
 
     // The cell with a leg booked.
     pub fn booked(&self, side: Side, effect: Effect, quantity: u32) -> Cell
-        requires { (self.now.longs ≤ 300_000) × ((self.now.shorts ≤ 300_000) × (quantity ≤ 100_000)) }
+        requires small { AtMost self.now 300_000 }
+        requires few { quantity ≤ 100_000 }
         ensures { result ≡ booked self.now side effect quantity }
     {
         let closed = self.closing(side, effect, quantity);
@@ -81,7 +70,9 @@ impl Cell {
 
     // The cell without a leg of that open and closed part.
     pub fn unbooked(&self, side: Side, open_part: u32, closed: u32) -> Cell
-        requires { (open_part ≤ on_side side self.now) × ((self.now.longs ≤ 100_000) × ((self.now.shorts ≤ 100_000) × (closed ≤ 100_000))) }
+        requires held { open_part ≤ on_side side self.now }
+        requires small { AtMost self.now 100_000 }
+        requires few { closed ≤ 100_000 }
         ensures { result ≡ unbooked self.now side open_part closed }
     {
         match side {
@@ -103,7 +94,8 @@ impl Cell {
 
     // The cell when so many contracts have joined a side.
     pub fn received(&self, side: Side, quantity: u32) -> Cell
-        requires { (self.now.longs ≤ 100_000) × ((self.now.shorts ≤ 100_000) × (quantity ≤ 100_000)) }
+        requires small { AtMost self.now 100_000 }
+        requires few { quantity ≤ 100_000 }
         ensures { result ≡ received self.now side quantity }
     {
         match side {
@@ -117,13 +109,8 @@ impl Cell {
         ensures { result ≡ with_denied self.now quantity }
     {
         Cell {
-            longs: self.longs,
-            shorts: self.shorts,
             denied: quantity,
-            due: self.due,
-            exercised: self.exercised,
-            assigned: self.assigned,
-            covered: self.covered,
+            ..*self
         }
     }
 
@@ -154,15 +141,10 @@ impl Cell {
     pub fn with_due(&self, asked: u32, automatic: bool) -> Cell
         ensures { result ≡ with_due self.now asked automatic }
     {
-        let wanted = u64::from(asked) + u64::from(self.undenied(automatic));
+        let wanted = asked.saturating_add(self.undenied(automatic));
         Cell {
-            longs: self.longs,
-            shorts: self.shorts,
-            denied: self.denied,
-            due: u64::from(self.longs).min(wanted) as u32,
-            exercised: self.exercised,
-            assigned: self.assigned,
-            covered: self.covered,
+            due: wanted.min(self.longs),
+            ..*self
         }
     }
 

@@ -5,7 +5,7 @@ use crate::kinds::Right;
 
 // How far in the money a series must be to be exercised at its expiry without a request: by hundredths of a percent of
 // the strike, or by an amount.
-#[derive(Clone, Copy)]
+#[derive(Clone, Copy, Debug, PartialEq, Eq)]
 pub enum Criterion {
     Percent(u32),
     Amount(u32),
@@ -16,6 +16,7 @@ impl Criterion {
     pub fn of_form(form: u32, value: u32) -> Criterion
         ensures { result ≡ criterion_of_form form value }
     {
+        // Kept: the form is a number of the archive's lines, which stands beside its value there.
         if form == 1 {
             Criterion::Percent(value)
         } else {

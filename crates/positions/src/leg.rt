@@ -1,19 +1,19 @@
 ghost use Rattle.std.specs.Prelude.{◌≡◌, ◌≤◌};
-ghost use Rattle.positions.specs.Cells.{on_side};
+ghost use Rattle.positions.specs.Cells.{on_side, AtMost};
 ghost use Rattle.positions.specs.Legs.{no_leg, next_state, stepped, rebooked, open_part, left_by};
 
 use crate::cell::Cell;
 use crate::kinds::{Effect, Side};
 
 // A leg is free, or held for a participant that may take it up.
-#[derive(Clone, Copy)]
+#[derive(Clone, Copy, Debug, PartialEq, Eq)]
 pub enum LegState {
     Free,
     Held(u32),
 }
 
 // What befalls a leg's state.
-#[derive(Clone, Copy)]
+#[derive(Clone, Copy, Debug, PartialEq, Eq)]
 pub enum LegEvent {
     GiveUp(u32),
     Confirm,
@@ -22,7 +22,7 @@ pub enum LegEvent {
 }
 
 // One side of a trade, in one account.
-#[derive(Clone, Copy)]
+#[derive(Clone, Copy, Debug, PartialEq, Eq)]
 pub struct Leg {
     pub account: u32,
     pub series: u32,
@@ -41,10 +41,8 @@ impl LegState {
     {
         match (self, event) {
             (LegState::Free, LegEvent::GiveUp(participant)) => LegState::Held(participant),
-            (LegState::Held(participant), LegEvent::GiveUp(_)) => LegState::Held(participant),
-            (_, LegEvent::Confirm) => LegState::Free,
-            (_, LegEvent::Reject) => LegState::Free,
-            (_, LegEvent::Cut) => LegState::Free,
+            (held, LegEvent::GiveUp(_)) => held,
+            (_, LegEvent::Confirm | LegEvent::Reject | LegEvent::Cut) => LegState::Free,
         }
     }
 }
@@ -75,7 +73,10 @@ impl Leg {
 
     // The cell that the leg leaves.
     pub fn left_by(&self, cell: &Cell) -> Cell
-        requires { (self.now.closed ≤ self.now.quantity) × ((self.now.quantity ≤ 100_000) × ((open_part self.now ≤ on_side self.now.side cell.now) × ((cell.now.longs ≤ 100_000) × (cell.now.shorts ≤ 100_000)))) }
+        requires part { self.now.closed ≤ self.now.quantity }
+        requires few { self.now.quantity ≤ 100_000 }
+        requires held { open_part self.now ≤ on_side self.now.side cell.now }
+        requires small { AtMost cell.now 100_000 }
         ensures { result ≡ left_by self.now cell.now }
     {
         cell.unbooked(self.side, self.open_part(), self.closed)

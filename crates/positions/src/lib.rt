@@ -9,6 +9,6 @@ mod row;
 
 pub use cell::Cell;
 pub use criterion::Criterion;
-pub use kinds::{AccountType, Effect, Right, Side};
+pub use kinds::{AccountType, Effect, NoCode, Right, Side};
 pub use leg::{Leg, LegEvent, LegState};
 pub use row::{place, total_longs};

@@ -21,9 +21,5 @@ pub fn place(cells: &mut [Cell; 32], at: usize, side: Side, effect: Effect, quan
 pub fn total_longs(cells: &[Cell; 32]) -> u64
     ensures { result ≡ total_longs cells.now }
 {
-    let mut all: u64 = 0;
-    for cell in cells {
-        all += u64::from(cell.longs);
-    }
-    all
+    cells.iter().map(|cell| u64::from(cell.longs)).sum()
 }

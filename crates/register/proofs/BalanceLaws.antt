@@ -11,10 +11,9 @@ use Rattle.positions.specs.declared.kinds.Effect.{Effect}
 use Rattle.positions.specs.Cells.{no_cell, on_side, booked, unbooked, given, received}
 use Rattle.positions.specs.Legs.{no_leg}
 use Rattle.positions.proofs.CellLaws.{bought, sold, unbought, unsold}
-use Rattle.ledger.specs.declared.state.Legs.{Legs}
 use Rattle.ledger.specs.declared.state.Series.{Series}
 use Rattle.ledger.specs.declared.state.State.{State}
-use Rattle.ledger.specs.Tables.{past_series}
+use Rattle.ledger.specs.Tables.{Legs, past_series}
 use Rattle.register.specs.Balance.{Listed, Count, none_listed, signed, added, moved}
 
 -- ── one cell ──

@@ -33,7 +33,7 @@ use Rattle.register.specs.declared.calls.Call.TheVariants.{Open, OfInput, OfExer
 use Rattle.book.specs.Stages.{fits_cut, fits_assigned, kept_or, replied_with, cut_refusal, assignment_refusal, next_day_refusal}
 use Rattle.exercise.specs.Requests.{request_checks, rejection_checks, denial_checks}
 use Rattle.exercise.specs.Criteria.{criterion_checks, fixing_checks, lodge_checks, withdrawal_checks}
-use Rattle.dayend.specs.Cutoff.{cut_checks, cut}
+use Rattle.dayend.specs.Cutoff.{cut}
 use Rattle.dayend.specs.Assignment.{needed, assignment_checks, assigned_state}
 use Rattle.dayend.specs.NextDay.{next_day_checks, next_day}
 use Rattle.exercise.proofs.RequestLaws.{requestable, facts_requested, facts_request_rejected, deniable, facts_denied}
@@ -184,7 +184,7 @@ step s y m room (ForInput p) (OfInput c) reply b k e = input_step s y p k c repl
 step s y m room (ForInput p) (OfExercise c) reply b k e = exercise_step s y p k c reply e
 step s y m room (ForInput p) CutOff reply b k e =
     by_end (cut_refusal s p) s (cut s) 0 y (λ t. y) reply k
-    (λ h. record { tied = tied_cut y s k.tied; sound = facts_cut s k.sound (passed s p (cut_checks s) h).0 }) e
+    (λ _. record { tied = tied_cut y s k.tied; sound = facts_cut s k.sound }) e
 step s y m room (ForInput p) Assign reply b k e = by_misfit s y _ reply k e
 step s y m room (ForInput p) GiveStatement reply b k e = by_misfit s y _ reply k e
 step s y m room (ForInput p) (BeginDay day) reply b k e = by_misfit s y _ reply k e

@@ -17,26 +17,23 @@ use Rattle.transfers.specs.declared.moves.Rebooking.{Rebooking}
 
 -- ── a leg leaves its account for another ──
 
--- the cells that the leg leaves
-abbrev pub cells_without : State → Leg → List Cell
-cells_without s l = slice_set (cells_of s (l.series - 1)) (l.account - 1) (left_by l (cell_at s l.account l.series))
-
--- the leg leaves its cell, and is booked anew in the other account under its effect
-abbrev pub rebooking_of : State → Leg → ℕ → Rebooking
-rebooking_of s l account = record {
-  cells = placed (cells_without s l) (account - 1) l.side l.effect l.quantity;
-  closed = closing (slice_index_or (cells_without s l) (account - 1) no_cell) l.side l.effect l.quantity;
-}
-
--- the same of cells that stand alone
+-- the cells of its series without the leg
 abbrev pub without_in : List Cell → Leg → List Cell
 without_in cells l = slice_set cells (l.account - 1) (left_by l (slice_index_or cells (l.account - 1) no_cell))
 
+-- the leg leaves its cell, and is booked anew in the other account under its effect
 abbrev pub rebooking_in : List Cell → Leg → ℕ → Rebooking
 rebooking_in cells l account = record {
   cells = placed (without_in cells l) (account - 1) l.side l.effect l.quantity;
   closed = closing (slice_index_or (without_in cells l) (account - 1) no_cell) l.side l.effect l.quantity;
 }
+
+-- the same in the cells of a book
+abbrev pub cells_without : State → Leg → List Cell
+cells_without s l = without_in (cells_of s (l.series - 1)) l
+
+abbrev pub rebooking_of : State → Leg → ℕ → Rebooking
+rebooking_of s l account = rebooking_in (cells_of s (l.series - 1)) l account
 
 -- its account's side still holds the leg's open part
 abbrev pub still_there : State → Leg → Bool
@@ -44,6 +41,13 @@ still_there s l = nat_le (open_part l) (on_side l.side (cell_at s l.account l.se
 
 abbrev pub room_for : State → Leg → ℕ → Bool
 room_for s l account = nat_le (total_longs (rebooking_of s l account).cells) 100_000
+
+-- what a leg that goes to another account has to pass
+abbrev pub rebooking_checks : State → Leg → ℕ → List (Bool × Refusal)
+rebooking_checks s l account =
+    (still_there s l, TooFew)
+    ∷ (room_for s l account, TooMany)
+    ∷ []
 
 abbrev pub transferred : State → ℕ → ℕ → State
 transferred s n account =
@@ -58,9 +62,7 @@ transfer_checks s n account =
     ∷ (has_leg s n, NoLeg)
     ∷ (another_of_same s (leg_of s n).account account, WrongAccount)
     ∷ (is_free (leg_of s n).state, LegHeld)
-    ∷ (still_there s (leg_of s n), TooFew)
-    ∷ (room_for s (leg_of s n) account, TooMany)
-    ∷ []
+    ∷ rebooking_checks s (leg_of s n) account
 
 -- ── give-up ──
 

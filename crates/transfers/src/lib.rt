@@ -4,6 +4,6 @@
 mod moves;
 
 pub use moves::{
-    Rebooking, give_up, move_position, refuse_give_up, refuse_position, refuse_take_up,
-    refuse_transfer, take_up, transfer,
+    Rebooking, check_give_up, check_position, check_take_up, check_transfer, give_up,
+    move_position, take_up, transfer,
 };

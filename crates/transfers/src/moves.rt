@@ -1,15 +1,15 @@
 ghost use Rattle.std.specs.Prelude.{◌≡◌, ◌-◌, ◌≤◌, true, slice_index_or};
-ghost use Rattle.draws.specs.Checks.{first_refusal};
+ghost use Rattle.draws.specs.Checks.{checked};
 ghost use Rattle.positions.specs.Cells.{no_cell, on_side};
 ghost use Rattle.positions.specs.Kinds.{side_of_code};
 ghost use Rattle.positions.specs.Legs.{open_part};
 ghost use Rattle.positions.specs.Rows.{Below};
 ghost use Rattle.ledger.specs.Tables.{cell_at, leg_of, with_cells};
 ghost use Rattle.ledger.specs.Lookups.{has_account, has_series, has_leg};
-ghost use Rattle.transfers.specs.Transfers.{rebooking_in, rebooking_of, still_there, room_for, transferred, transfer_checks, give_up_checks, given_up, confirms, take_up_checks, confirmed, rejected, taken_up, position_checks, position_moved};
+ghost use Rattle.transfers.specs.Transfers.{rebooking_in, rebooking_of, still_there, rebooking_checks, transferred, transfer_checks, give_up_checks, given_up, confirms, take_up_checks, taken_up, position_checks, position_moved};
 ghost use Rattle.ledger.specs.Sound.{Facts, ValidLeg};
 
-use ledger::{PositionTransfer, Refusal, State, is_free, is_held_for, is_within};
+use ledger::{Ledger, PositionTransfer, Refusal, State, is_free, is_held_for, is_within};
 use positions::{Cell, Leg, LegEvent, Side, place, total_longs};
 
 // What a leg's transfer does to its series: the cells after it, and the leg's closed part in its new account.
@@ -17,15 +17,6 @@ use positions::{Cell, Leg, LegEvent, Side, place, total_longs};
 pub struct Rebooking {
     pub cells: [Cell; 32],
     pub closed: u32,
-}
-
-// Whether the leg's account still holds the leg's open part on its side.
-fn still_there(book: &State, leg: &Leg) -> bool
-    requires sound { Facts book.now }
-    requires valid { ValidLeg book.now leg.now }
-    ensures { result ≡ still_there book.now leg.now }
-{
-    leg.open_part() <= book.cell(leg.account, leg.series).on_side(leg.side)
 }
 
 // Takes the leg from its account's cell and books it anew in the other's, and answers its closed part there.
@@ -51,54 +42,52 @@ fn rebook(cells: &mut [Cell; 32], leg: &Leg, account: u32) -> u32
 }
 
 // Takes the leg from its account's cell and books it anew in the other's, in a copy of the series' cells.
-fn rebooking_of(book: &State, leg: &Leg, account: u32) -> Rebooking
-    requires sound { Facts book.now }
-    requires known { has_account book.now account ≡ true }
-    requires valid { ValidLeg book.now leg.now }
-    requires enough { open_part leg.now ≤ on_side leg.now.side (cell_at book.now leg.now.account leg.now.series) }
-    ensures { result ≡ rebooking_of book.now leg.now account }
+fn rebooking_of(book: &Ledger, leg: &Leg, account: u32) -> Rebooking
+    requires known { has_account book.now.state account ≡ true }
+    requires valid { ValidLeg book.now.state leg.now }
+    requires enough { still_there book.now.state leg.now ≡ true }
+    ensures { result ≡ rebooking_of book.now.state leg.now account }
 {
-    let mut cells = book.cells(leg.series as usize - 1);
+    let mut cells = book.state.cells(leg.series as usize - 1);
     let closed = rebook(&mut cells, leg, account);
     Rebooking { cells, closed }
 }
 
-// Whether the series' longs stay within their limit when the leg is booked anew.
-fn room_for(book: &State, leg: &Leg, account: u32) -> bool
-    requires sound { Facts book.now }
-    requires known { has_account book.now account ≡ true }
-    requires valid { ValidLeg book.now leg.now }
-    requires enough { still_there book.now leg.now ≡ true }
-    ensures { result ≡ room_for book.now leg.now account }
+// Whether the leg's account still holds the leg's open part on its side, and the series' longs stay within their limit
+// when the leg is booked anew.
+fn check_rebooking(book: &Ledger, leg: &Leg, account: u32) -> Result<(), Refusal>
+    requires known { has_account book.now.state account ≡ true }
+    requires valid { ValidLeg book.now.state leg.now }
+    ensures { result ≡ checked (rebooking_checks book.now.state leg.now account) }
 {
-    total_longs(&rebooking_of(book, leg, account).cells) <= 100_000
+    let cell = book.state.cell(leg.account, leg.series);
+    if leg.open_part() > cell.on_side(leg.side) {
+        return Err(Refusal::TooFew);
+    }
+    if total_longs(&rebooking_of(book, leg, account).cells) > 100_000 {
+        return Err(Refusal::TooMany);
+    }
+    Ok(())
 }
 
 // Why a trade transfer is turned back, if it is.
-pub fn refuse_transfer(book: &State, leg: u32, account: u32) -> Option<Refusal>
-    requires { Facts book.now }
-    ensures { result ≡ first_refusal (transfer_checks book.now leg account) }
+pub fn check_transfer(book: &Ledger, leg: u32, account: u32) -> Result<(), Refusal>
+    ensures { result ≡ checked (transfer_checks book.now.state leg account) }
 {
-    if !book.has_account(account) {
-        return Some(Refusal::NoAccount);
+    if !book.state.has_account(account) {
+        return Err(Refusal::NoAccount);
     }
-    if !book.has_leg(leg) {
-        return Some(Refusal::NoLeg);
+    if !book.state.has_leg(leg) {
+        return Err(Refusal::NoLeg);
     }
-    let booked = book.legs.rows[leg as usize - 1];
-    if !book.another_of_same(booked.account, account) {
-        return Some(Refusal::WrongAccount);
+    let booked = book.state.legs.rows[leg as usize - 1];
+    if !book.state.another_of_same(booked.account, account) {
+        return Err(Refusal::WrongAccount);
     }
     if !is_free(booked.state) {
-        return Some(Refusal::LegHeld);
+        return Err(Refusal::LegHeld);
     }
-    if !still_there(book, &booked) {
-        return Some(Refusal::TooFew);
-    }
-    if !room_for(book, &booked, account) {
-        return Some(Refusal::TooMany);
-    }
-    None
+    check_rebooking(book, &booked, account)
 }
 
 // Books the leg anew in the other account.
@@ -116,89 +105,60 @@ pub fn transfer(book: &mut State, leg: u32, account: u32)
 }
 
 // Why a give-up is turned back, if it is.
-pub fn refuse_give_up(book: &State, leg: u32, participant: u32) -> Option<Refusal>
-    requires { Facts book.now }
-    ensures { result ≡ first_refusal (give_up_checks book.now leg participant) }
+pub fn check_give_up(book: &Ledger, leg: u32, participant: u32) -> Result<(), Refusal>
+    ensures { result ≡ checked (give_up_checks book.now.state leg participant) }
 {
     if !is_within(participant, 1, 99) {
-        return Some(Refusal::OutOfRange);
+        return Err(Refusal::OutOfRange);
     }
-    if !book.has_leg(leg) {
-        return Some(Refusal::NoLeg);
+    if !book.state.has_leg(leg) {
+        return Err(Refusal::NoLeg);
     }
-    let booked = book.legs.rows[leg as usize - 1];
-    if book.participant(booked.account) == participant {
-        return Some(Refusal::WrongAccount);
+    let booked = book.state.legs.rows[leg as usize - 1];
+    if book.state.participant(booked.account) == participant {
+        return Err(Refusal::WrongAccount);
     }
     if !is_free(booked.state) {
-        return Some(Refusal::LegHeld);
+        return Err(Refusal::LegHeld);
     }
-    None
+    Ok(())
 }
 
 // Holds the leg for the participant.
-pub fn give_up(book: &mut State, leg: u32, participant: u32)
-    requires sound { Facts book.old }
-    requires leg { has_leg book.old leg ≡ true }
-    ensures { book.new ≡ given_up book.old leg participant }
+pub fn give_up(book: &mut Ledger, leg: u32, participant: u32)
+    requires { has_leg book.old.state leg ≡ true }
+    ensures { book.new.state ≡ given_up book.old.state leg participant }
 {
-    book.legs
+    book.state
+        .legs
         .step(leg as usize - 1, LegEvent::GiveUp(participant));
 }
 
 // Why a take-up is turned back, if it is.
-pub fn refuse_take_up(book: &State, leg: u32, answer: u32, account: u32) -> Option<Refusal>
-    requires { Facts book.now }
-    ensures { result ≡ first_refusal (take_up_checks book.now leg answer account) }
+pub fn check_take_up(book: &Ledger, leg: u32, answer: u32, account: u32) -> Result<(), Refusal>
+    ensures { result ≡ checked (take_up_checks book.now.state leg answer account) }
 {
     let confirms = answer == 1;
     if !is_within(answer, 1, 2) || !confirms && account != 0 {
-        return Some(Refusal::OutOfRange);
+        return Err(Refusal::OutOfRange);
     }
-    if confirms && !book.has_account(account) {
-        return Some(Refusal::NoAccount);
+    if confirms && !book.state.has_account(account) {
+        return Err(Refusal::NoAccount);
     }
-    if !book.has_leg(leg) {
-        return Some(Refusal::NoLeg);
+    if !book.state.has_leg(leg) {
+        return Err(Refusal::NoLeg);
     }
-    let booked = book.legs.rows[leg as usize - 1];
+    let booked = book.state.legs.rows[leg as usize - 1];
     if is_free(booked.state) {
-        return Some(Refusal::LegFree);
+        return Err(Refusal::LegFree);
     }
     if !confirms {
-        return None;
+        return Ok(());
     }
-    if !is_held_for(booked.state, book.participant(account)) {
-        return Some(Refusal::WrongAccount);
+    if !is_held_for(booked.state, book.state.participant(account)) {
+        return Err(Refusal::WrongAccount);
     }
-    if !still_there(book, &booked) {
-        return Some(Refusal::TooFew);
-    }
-    if !room_for(book, &booked, account) {
-        return Some(Refusal::TooMany);
-    }
-    None
-}
-
-// Books the held leg anew in the account, and frees it.
-fn confirm(book: &mut State, leg: u32, account: u32)
-    requires sound { Facts book.old }
-    requires known { has_account book.old account ≡ true }
-    requires leg { has_leg book.old leg ≡ true }
-    requires enough { still_there book.old (leg_of book.old leg) ≡ true }
-    ensures { book.new ≡ confirmed book.old leg account }
-{
-    transfer(book, leg, account);
-    book.legs.step(leg as usize - 1, LegEvent::Confirm);
-}
-
-// Frees the held leg.
-fn reject(book: &mut State, leg: u32)
-    requires sound { Facts book.old }
-    requires leg { has_leg book.old leg ≡ true }
-    ensures { book.new ≡ rejected book.old leg }
-{
-    book.legs.step(leg as usize - 1, LegEvent::Reject);
+    check_rebooking(book, &booked, account)
 }
 
 // Confirms the held leg for the account, or rejects it.
@@ -209,37 +169,39 @@ pub fn take_up(book: &mut State, leg: u32, answer: u32, account: u32)
     requires enough { confirms answer ≡ true → still_there book.old (leg_of book.old leg) ≡ true }
     ensures { book.new ≡ taken_up book.old leg answer account }
 {
-    if answer == 1 {
-        confirm(book, leg, account);
+    let event = if answer == 1 {
+        transfer(book, leg, account);
+        LegEvent::Confirm
     } else {
-        reject(book, leg);
-    }
+        LegEvent::Reject
+    };
+    book.legs.step(leg as usize - 1, event);
 }
 
 // Why a position transfer is turned back, if it is.
-pub fn refuse_position(book: &State, t: &PositionTransfer) -> Option<Refusal>
-    requires { Facts book.now }
-    ensures { result ≡ first_refusal (position_checks book.now t.now) }
+pub fn check_position(book: &Ledger, t: &PositionTransfer) -> Result<(), Refusal>
+    ensures { result ≡ checked (position_checks book.now.state t.now) }
 {
     if !is_within(t.side, 1, 2) || !is_within(t.quantity, 1, 100_000) {
-        return Some(Refusal::OutOfRange);
+        return Err(Refusal::OutOfRange);
     }
-    if !book.has_account(t.from) || !book.has_account(t.to) {
-        return Some(Refusal::NoAccount);
+    if !book.state.has_account(t.from) || !book.state.has_account(t.to) {
+        return Err(Refusal::NoAccount);
     }
-    if !book.has_series(t.series) {
-        return Some(Refusal::NoSeries);
+    if !book.state.has_series(t.series) {
+        return Err(Refusal::NoSeries);
     }
-    if book.expired(t.series) {
-        return Some(Refusal::Expired);
+    if book.state.expired(t.series) {
+        return Err(Refusal::Expired);
     }
-    if !book.another_of_same(t.from, t.to) {
-        return Some(Refusal::WrongAccount);
+    if !book.state.another_of_same(t.from, t.to) {
+        return Err(Refusal::WrongAccount);
     }
-    if t.quantity > book.cell(t.from, t.series).on_side(Side::of_code(t.side)) {
-        return Some(Refusal::TooFew);
+    let cell = book.state.cell(t.from, t.series);
+    if t.quantity > cell.on_side(Side::of_code(t.side)) {
+        return Err(Refusal::TooFew);
     }
-    None
+    Ok(())
 }
 
 // Moves the contracts.

@@ -1,5 +1,17 @@
+use Rattle.std.proofs.Common.{rules}
+use Rattle.ledger.proofs.FactLaws.{facts, sound_at}
+use Rattle.dayend.specs.Assignment.{assigned_state}
 use Rattle.dayend.proofs.AssignLaws.{rows_ready}
+use Rattle.dayend.proofs.AssignedLaws.{facts_assigned}
 use Rattle.dayend.proofs.assignment.assign.Goals as goal
 
 pub assign_rows-requires : goal.assign_rows-requires
-assign_rows-requires g c = rows_ready c.args.book.now (g.S.Draws.meaning c.args.source.now) c.requires.sound c.requires.cut c.requires.supplied
+assign_rows-requires g c =
+    let s = c.args.book.now.state in
+    rows_ready s (g.S.Draws.meaning c.args.source.now) (facts s c.args.book.now.sound) c.requires.cut c.requires.supplied
+
+pub invariant_of-book : goal.invariant_of-book
+invariant_of-book g c =
+    let s = c.args.book.now.state in
+    let m = g.S.Draws.meaning c.args.source.now in
+    record { sound = sound_at _ (assigned_state s m) (search rules) (facts_assigned s m (facts s c.args.book.now.sound) c.requires.cut (g.S.Draws.below c.args.source.now) c.requires.supplied) }

@@ -4,5 +4,5 @@ use Rattle.positions.specs.Legs.{stepped}
 use Rattle.positions.proofs.PlaceLaws.{first}
 use Rattle.dayend.proofs.cutoff.cut_legs.Given as goal
 
-abbrev pub invariant-loop-i : goal.invariant-loop-i
-invariant-loop-i l = l.legs ≡ first l.i (λ _ x. stepped x Cut) l.initial.legs
+abbrev pub invariant-loop-leg : goal.invariant-loop-leg
+invariant-loop-leg l = l.legs ≡ first l.leg-index (λ _ x. stepped x Cut) l.initial.legs

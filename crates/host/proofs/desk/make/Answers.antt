@@ -10,8 +10,8 @@ pub returns : goal.returns
 returns c =
     let u = unread_of c.args.unread.now in
     let ps = c.args.places.now in
-    let m = tape c.new-source.result.numbers.now c.new-source.result.at in
-    let n = tape c.perform-pass.new.source.numbers.now c.perform-pass.new.source.at in
+    let m = tape c.new-source.result.unread.now 0 in
+    let n = tape c.perform-pass.new.source.unread.now 0 in
     let e : m ≡ tape u 0 = c.new-source.ensures ∙ ap (λ x. tape x 0) c.numbers.ensures in
     let P : Reply → Type 0 = λ r. Brief r in
     record {

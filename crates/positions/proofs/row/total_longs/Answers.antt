@@ -1,10 +1,9 @@
-use Rattle.std.proofs.Common.{rules}
-use Rattle.std.proofs.lemmas.List.Sums.{sum_by_more}
-use Rattle.std.proofs.lemmas.List.{take_all}
+use Rattle.std.proofs.Common.{◌≤◌, length, ◌^◌, rules, arith}
+use Rattle.std.proofs.lemmas.Iterator.{YieldsList-from_slice}
+use Rattle.std.proofs.lemmas.Iterator.Adapters.{fits_from_length, at_most_from_yields_List}
 use Rattle.positions.proofs.row.total_longs.Goals as goal
 
-pub loop-cell-preserved : goal.loop-cell-preserved
-loop-cell-preserved c = search (rules, sum_by_more)
-
-pub returns : goal.returns
-returns c = search (rules, take_all)
+pub sum-requires-clause-fits : goal.sum-requires-clause-fits
+sum-requires-clause-fits c =
+    let few : length c.args.cells.now ≤ 32 = omega arith in
+    fits_from_length _ _ 32 (2 ^ 64) (at_most_from_yields_List (YieldsList-from_slice c.args.cells.now cc) few) c.map.ensures.closure (omega arith) (λ x r q k. search rules)
