@@ -139,6 +139,7 @@ impl Host {
     }
 
     // Answers an input line, or whatever bytes stand for one.
+    #[tactic(auto, using(crate::proofs::Answering::given_back))]
     pub fn answer(&mut self, line: &[u8]) -> Answered
         ensures { Answers (shown self.old) line.now result (shown self.new) }
     {
@@ -152,13 +153,13 @@ impl Host {
 
     // The same in a text that the caller lends: it becomes the filled line. The answer is how many statement lines follow
     // it. A line of which only as many bytes are given as a text holds has the same answer.
+    #[tactic(auto, using(crate::proofs::Answering::read_answers, crate::proofs::Answering::faulty_answers, crate::proofs::Answering::faulty_begun))]
     pub fn answer_into(&mut self, line: &[u8], text: &mut Text) -> usize
         ensures whole { AnswersText (shown self.old) line.now (text_of text.new) result (shown self.new) }
         ensures begun { (w : List ℕ) → cut w ≡ line.now → AnswersText (shown self.old) w (text_of text.new) result (shown self.new) }
     {
-        let read = read_input(line);
-        match &read {
-            Ok(read) => self.answer_read(read, line, text),
+        match read_input(line) {
+            Ok(read) => self.answer_read(&read, line, text),
             Err(faulty) => {
                 fill_faulty(text, faulty.start);
                 0
