@@ -52,15 +52,15 @@ same_start w m n s t =
     (λ l. ⊎_elim (λ g. absurd (one_start w n m t s g)) (λ g. omega arith) (cases_lt n m))
     (cases_lt m n)
 
-pub faulty_answers : (h : Shown) (w : List ℕ) (m : ℕ) (text : List ℕ) → LongestStart IsInput w m → m ≤ 66 → text ≡ cut (filled_line 99 [] 2 m) → AnswersText h w text 0 h
-faulty_answers h w m text s few t =
+pub faulty_answers : (h : Shown) (w : List ℕ) (m : ℕ) (text : List ℕ) → LongestStart IsInput w m × (m ≤ 66) → text ≡ cut (filled_line 99 [] 2 m) → AnswersText h w text 0 h
+faulty_answers h w m text s t =
     let F : List ℕ → Type 0 = λ x. FilledLine 99 [] 2 m x in
-    let line = subst F (sym t) (fills_faulty m few) in
+    let line = subst F (sym t) (fills_faulty m s.1) in
     record {
-      fills = λ k ns i. absurd (s.no_line (k, ns, i));
+      fills = λ k ns i. absurd (s.0.no_line (k, ns, i));
       faults = λ n r.
           let P : ℕ → Type 0 = λ x. FilledLine 99 [] 2 x text in
-          record { text_is = subst P (same_start w m n s r) line; follow = refl; held = refl };
+          record { text_is = subst P (same_start w m n s.0 r) line; follow = refl; held = refl };
     }
 
 -- the longest start of a long line is that of its first 170 bytes
@@ -77,7 +77,7 @@ cut_start w n long s =
     }
 
 -- a line that is cut to 170 bytes is answered as the whole line
-pub begun_answers : (h : Shown) (w line text : List ℕ) (n : ℕ) (after : Shown) → cut w ≡ line → AnswersText h line text n after → AnswersText h w text n after
+begun_answers : (h : Shown) (w line text : List ℕ) (n : ℕ) (after : Shown) → cut w ≡ line → AnswersText h line text n after → AnswersText h w text n after
 begun_answers h w line text n after e a =
     let A : List ℕ → Type 0 = λ x. AnswersText h x text n after in
     ⊎_elim
@@ -87,6 +87,12 @@ begun_answers h w line text n after e a =
     })
     (λ short. subst A (sym e ∙ take_all 170 w (omega arith)) a)
     (cases_lt 170 (length w))
+
+pub read_begun : (h : Shown) (w : List ℕ) (l : Line) (text : List ℕ) (n : ℕ) (after : Shown) → ReadsInput w l → FillsText h (kind_of l) (numbers_of l) text n after → (v : List ℕ) → cut v ≡ w → AnswersText h v text n after
+read_begun h w l text n after reads f v e = begun_answers h v w text n after e (read_answers h w l text n after reads f)
+
+pub faulty_begun : (h : Shown) (w : List ℕ) (m : ℕ) (text : List ℕ) → LongestStart IsInput w m × (m ≤ 66) → text ≡ cut (filled_line 99 [] 2 m) → (v : List ℕ) → cut v ≡ w → AnswersText h v text 0 h
+faulty_begun h w m text s t v e = begun_answers h v w text 0 h e (faulty_answers h w m text s t)
 
 -- a text that is lent and one that is given back are answered alike
 pub given_back : (h : Shown) (line : List ℕ) (text : Text) (n : ℕ) (after : Shown) → AnswersText h line (text_of text) n after → Answers h line (record { text = Some text; statements = n }) after

@@ -1,5 +1,5 @@
 ghost use Rattle.std.specs.Prelude.{◌≡◌, slice_index};
-ghost use Rattle.host.specs.Calls.{input_of, exercise_of, call_of};
+ghost use Rattle.host.specs.Calls.{opening_of, trade_of, position_of, input_of, exercise_of, stage_of, call_of};
 
 use ledger::{PositionTransfer, Trade};
 use register::{Call, ExerciseCall, InputCall, Opening};
@@ -8,11 +8,11 @@ use register::{Call, ExerciseCall, InputCall, Opening};
 pub(crate) fn at(numbers: &[u32], i: usize) -> u32
     ensures { result ≡ slice_index numbers.now i }
 {
-    if i < numbers.len() { numbers[i] } else { 0 }
+    numbers.get(i).copied().unwrap_or(0)
 }
 
 fn opening_of(n: &[u32]) -> Opening
-    ensures { result ≡ record { number = slice_index n.now 0; day = slice_index n.now 1; size = slice_index n.now 2; block = slice_index n.now 3 } }
+    ensures { result ≡ opening_of n.now }
 {
     Opening {
         number: at(n, 0),
@@ -23,7 +23,7 @@ fn opening_of(n: &[u32]) -> Opening
 }
 
 fn trade_of(n: &[u32]) -> Trade
-    ensures { result ≡ record { series = slice_index n.now 0; buyer = slice_index n.now 1; buyer_effect = slice_index n.now 2; seller = slice_index n.now 3; seller_effect = slice_index n.now 4; quantity = slice_index n.now 5; price = slice_index n.now 6 } }
+    ensures { result ≡ trade_of n.now }
 {
     Trade {
         series: at(n, 0),
@@ -37,7 +37,7 @@ fn trade_of(n: &[u32]) -> Trade
 }
 
 fn position_of(n: &[u32]) -> PositionTransfer
-    ensures { result ≡ record { from = slice_index n.now 0; to = slice_index n.now 1; series = slice_index n.now 2; side = slice_index n.now 3; quantity = slice_index n.now 4 } }
+    ensures { result ≡ position_of n.now }
 {
     PositionTransfer {
         from: at(n, 0),
@@ -117,16 +117,10 @@ fn exercise_of(kind: u8, n: &[u32]) -> Option<ExerciseCall>
     }
 }
 
-// The call of a line's kind and numbers, if the kind has one: a tape number is no call.
-pub(crate) fn call_of(kind: u8, n: &[u32]) -> Option<Call>
-    ensures { result ≡ call_of kind n.now }
+// The call of a stage's end, or the opening, with that kind and numbers, if the kind has one.
+fn stage_of(kind: u8, n: &[u32]) -> Option<Call>
+    ensures { result ≡ stage_of kind n.now }
 {
-    if let Some(call) = input_of(kind, n) {
-        return Some(Call::OfInput(call));
-    }
-    if let Some(call) = exercise_of(kind, n) {
-        return Some(Call::OfExercise(call));
-    }
     match kind {
         10 => Some(Call::Open(opening_of(n))),
         28 => Some(Call::CutOff),
@@ -135,4 +129,15 @@ pub(crate) fn call_of(kind: u8, n: &[u32]) -> Option<Call>
         32 => Some(Call::BeginDay(at(n, 0))),
         _ => None,
     }
+}
+
+// The call of a line's kind and numbers, if the kind has one: a tape number is no call.
+// Kept: a kind stays a number, as the archive and the definitions of the law have it.
+pub(crate) fn call_of(kind: u8, n: &[u32]) -> Option<Call>
+    ensures { result ≡ call_of kind n.now }
+{
+    input_of(kind, n)
+        .map(Call::OfInput)
+        .or_else(|| exercise_of(kind, n).map(Call::OfExercise))
+        .or_else(|| stage_of(kind, n))
 }

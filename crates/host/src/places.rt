@@ -2,31 +2,28 @@ ghost use Rattle.std.specs.Prelude.{◌≡◌, ◌<◌, ◌≤◌, None};
 ghost use Rattle.lines.specs.Lines.{StatementText};
 ghost use Rattle.statements.specs.Statements.{values_of};
 ghost use Rattle.lines.specs.Texts.{WrittenAs};
-ghost use Rattle.host.specs.Places.{empty_line, line_numbers, numbers_at};
+ghost use Rattle.host.specs.Places.{line_numbers, numbers_at};
 
 use lines::Text;
 use settlement::{Line, Method, Role};
 use statements::{StatementLine, write_statement};
 
 // A place with nothing in it.
-pub(crate) fn no_line() -> Line
-    ensures { result ≡ empty_line }
-{
-    Line {
-        series: 0,
-        account: 0,
-        role: Role::Exerciser,
-        method: Method::Covered,
-        contracts: 0,
-        shares_received: 0,
-        shares_delivered: 0,
-        money_paid: 0,
-        money_received: 0,
-        settlement_day: 0,
-    }
-}
+pub(crate) const NO_LINE: Line = Line {
+    series: 0,
+    account: 0,
+    role: Role::Exerciser,
+    method: Method::Covered,
+    contracts: 0,
+    shares_received: 0,
+    shares_delivered: 0,
+    money_paid: 0,
+    money_received: 0,
+    settlement_day: 0,
+};
 
 // The line as its numbers.
+// Kept: settlement and statements know nothing of each other, and the host owns neither type, so this is no From.
 fn numbers_of(line: &Line) -> StatementLine
     ensures { values_of result ≡ line_numbers line.now }
 {
@@ -49,9 +46,5 @@ pub(crate) fn text_at(lines: &[Line; 256], i: usize) -> Option<Text>
     ensures here { i < 256 → WrittenAs result (StatementText (numbers_at lines.now i)) }
     ensures past { 256 ≤ i → result ≡ None }
 {
-    if i < 256 {
-        write_statement(&numbers_of(&lines[i]))
-    } else {
-        None
-    }
+    write_statement(&numbers_of(lines.get(i)?))
 }

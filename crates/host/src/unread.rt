@@ -1,8 +1,8 @@
 ghost use Rattle.std.specs.Prelude.{◌≡◌, ◌<◌, [], ◌∷◌, ◌++◌, length};
-ghost use Rattle.register.specs.Register.{Brief};
+ghost use Rattle.register.specs.Register.{replied};
 ghost use Rattle.host.specs.Numbers.{first, unread_of, number_reply, with_number, last};
 
-use draws::Reply;
+use ledger::Refusal;
 
 // How many numbers are held at most.
 const PLACES: usize = 1_024;
@@ -65,22 +65,15 @@ impl Unread {
     }
 
     // Takes one more number, if there is room.
-    pub(crate) fn push(&mut self, number: u32) -> Reply
-        ensures reply { result ≡ number_reply (unread_of self.old) }
-        ensures brief { Brief result }
+    pub(crate) fn push(&mut self, number: u32) -> Result<u32, Refusal>
+        ensures reply { replied result ≡ number_reply (unread_of self.old) }
         ensures after { unread_of self.new ≡ with_number (unread_of self.old) number }
     {
         if self.numbers().len() < PLACES {
             self.count = put(&mut self.numbers, self.count, number);
-            Reply {
-                number: 0,
-                result: 0,
-            }
+            Ok(0)
         } else {
-            Reply {
-                number: 18,
-                result: 0,
-            }
+            Err(Refusal::Full)
         }
     }
 
