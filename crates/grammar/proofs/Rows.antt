@@ -1,9 +1,10 @@
 -- The table of kinds, by the place of a row.
-use Rattle.std.proofs.Common.{◌≡◌, ℕ, zero, suc, false, eqb, List, [], ◌∷◌, get_or, Some, None, Decides, Option, sym, refl, ap, ◌∙◌, subst, arith}
-use Rattle.std.proofs.lemmas.Bool.{cond-true, cond-false, eq-eqb, ne_eqb, eqb-true}
+use Rattle.std.proofs.Common.{◌≡◌, ℕ, zero, suc, ◌+◌, ◌*◌, ◌/◌, ◌%◌, ◌<◌, Bool, true, false, eqb, List, [], ◌∷◌, get_or, Some, None, sym, refl, ◌∙◌, subst, ⊎_elim, arith}
+use Rattle.std.specs.List.{list_any}
+use Rattle.std.proofs.lemmas.Bool.{cond-true, cond-false, cases_Bool, eq-eqb, ne_eqb, eqb-true, false≢true}
 use Rattle.grammar.specs.declared.kinds.Row.{Row}
 use Rattle.grammar.specs.Kinds.{FirstPlace, arity}
-use Rattle.grammar.specs.Grammar.{Piece, Lines, Stuck, Table, StartRead}
+use Rattle.grammar.specs.Grammar.{Piece, Lines, Stuck, Table, StartRead, Leads}
 
 pub found : (rows : List Row) (k i : ℕ) → FirstPlace rows k (Some i) → arity rows k ≡ Some (get_or rows i (record { kind = 0; fields = 0 })).fields
 found [] k i h = absurd (omega (arith, h.0))
@@ -24,14 +25,30 @@ stuck_at rows other t xs left e st = subst (λ r. Stuck (Lines r t) xs left) e s
 pub start_at : (rows other : List Row) (xs : List ℕ) (k : ℕ) (texts : List (List ℕ)) (rest : List ℕ) → rows ≡ other → StartRead rows xs k texts rest → StartRead other xs k texts rest
 start_at rows other xs k texts rest e s = subst (λ r. StartRead r xs k texts rest) e s
 
--- what a search tells of the number of fields
-pub known_at : (rows : List Row) (k i n : ℕ) → FirstPlace rows k (Some i) → Decides (eqb (get_or rows i (record { kind = 0; fields = 0 })).fields n) (arity rows k ≡ Some n)
-known_at rows k i n h =
-    let e = found rows k i h in
-    (λ t. e ∙ ap Some (eqb-true _ n t), λ a. let s : ◌≡◌ {A = Option ℕ} (Some (get_or rows i (record { kind = 0; fields = 0 })).fields) (Some n) = sym e ∙ a in eq-eqb _ n (cc s))
+-- some row has a kind with the tens digit t, or none has
+leads_some : (rows : List Row) (t : ℕ) → list_any (λ r. eqb (r.kind / 10) t) rows ≡ true → (d : ℕ) × (n : ℕ) × (d < 10) × (arity rows (10 * t + d) ≡ Some n)
+leads_some [] t e = absurd (false≢true e)
+leads_some (r ∷ rs) t e =
+    ⊎_elim
+    (λ y. (r.kind % 10, r.fields, omega arith, cond-true (eqb r.kind (10 * t + r.kind % 10)) _ _ (eq-eqb _ _ (omega (arith, eqb-true _ _ y)))))
+    (λ n.
+    let p = leads_some rs t (rw n at e) in
+    ⊎_elim
+    (λ y. (p.0, r.fields, p.2, cond-true (eqb r.kind (10 * t + p.0)) _ _ y))
+    (λ m. (p.0, p.1, p.2, cond-false (eqb r.kind (10 * t + p.0)) _ _ m ∙ p.3))
+    (cases_Bool (eqb r.kind (10 * t + p.0))))
+    (cases_Bool (eqb (r.kind / 10) t))
 
-pub unknown_at : (rows : List Row) (k n : ℕ) → FirstPlace rows k None → Decides false (arity rows k ≡ Some n)
-unknown_at rows k n h = (
-  λ t. absurd (let z : ◌≡◌ {A = ℕ} 0 1 = cc t in omega arith),
-  λ a. let s : ◌≡◌ {A = Option ℕ} None (Some n) = sym (not_found rows k h) ∙ a in absurd (let z : ◌≡◌ {A = ℕ} 0 1 = cc s in omega arith),
-)
+leads_none : (rows : List Row) (t d : ℕ) → list_any (λ r. eqb (r.kind / 10) t) rows ≡ false → d < 10 → arity rows (10 * t + d) ≡ None
+leads_none [] t d e l = refl
+leads_none (r ∷ rs) t d e l =
+    ⊎_elim
+    (λ y. absurd (false≢true (sym (rw y at e))))
+    (λ n.
+    let m : r.kind ≡ 10 * t + d → ⊥ = λ same. let q : r.kind / 10 ≡ t = omega arith in false≢true (sym n ∙ eq-eqb _ _ q) in
+    cond-false (eqb r.kind (10 * t + d)) _ _ (ne_eqb _ _ m) ∙ leads_none rs t d (rw n at e) l)
+    (cases_Bool (eqb (r.kind / 10) t))
+
+pub leads_any : (rows : List Row) (t : ℕ) (b : Bool) → b ≡ list_any (λ r. eqb (r.kind / 10) t) rows → Leads rows t b
+leads_any rows t true e = leads_some rows t (sym e)
+leads_any rows t false e = λ d l. leads_none rows t d (sym e) l

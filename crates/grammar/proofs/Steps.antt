@@ -1,12 +1,13 @@
 -- The steps of a scan.
-use Rattle.std.proofs.Common.{◌≡◌, ℕ, zero, suc, ◌+◌, ◌^◌, ◌<◌, ◌≤◌, eqb, ltb, ◌⊎◌, List, [], ◌∷◌, ◌++◌, map, length, get_or, take, drop, Some, None, decimal, Option, sym, refl, ap, ◌∙◌, subst, inl, inr, ⊎_elim, append_assoc, append-nil, arith, rules}
+use Rattle.std.proofs.Common.{◌≡◌, ℕ, zero, suc, ◌+◌, ◌^◌, ◌<◌, ◌≤◌, true, false, eqb, ltb, ◌⊎◌, List, [], ◌∷◌, ◌++◌, map, length, get_or, take, drop, Some, None, decimal, Option, sym, refl, ap, ◌∙◌, subst, inl, inr, ⊎_elim, append_assoc, append-nil, arith, rules, tests}
 use native.Mathlib.Nat.{pow-le-pow_right}
 use Rattle.std.specs.Str.Parse.{digits_value, AllDigits as Digits}
 use Rattle.std.specs.Int.{IsInRange}
-use Rattle.std.specs.Char.{digit_value}
-use Rattle.std.specs.List.{flat_map}
+use Rattle.std.specs.Char.{digit_value, is_ascii_digit}
+use Rattle.std.specs.List.{flat_map, prefix_len}
 use Rattle.std.proofs.ByRecursion.{All-push}
-use Rattle.std.proofs.lemmas.List.{length-append, length-take-le, take-append-drop, get_or-take, drop_all, drop_more, flat_map_more, map_push}
+use Rattle.std.proofs.lemmas.List.Sums.{prefix_len-le-length, prefix_len_passes, prefix_len_stops}
+use Rattle.std.proofs.lemmas.List.{length-append, length-take, length-take-le, take-append-drop, get_or-take, drop_all, drop_more, flat_map_more, map_push}
 use Rattle.std.proofs.lemmas.Bool.{cond_both, cond-true, cond-false, le-ltb, lt-ltb, eqb-true, eq-eqb, cases_eq, cases_lt}
 use Rattle.std.proofs.lemmas.Str.Parse.{IsNumeralModel, numerals_by_value, tells_by_index, digits_value_short, digit_at}
 use Rattle.std.proofs.lemmas.Fmt.{digits_decimal, digits_value-decimal, decimal-digits_value, decimal_digit, decimal_nonempty, first_decimal, length-decimal-le}
@@ -184,7 +185,7 @@ by_index : IsNumeralModel (λ ds. (i : ℕ) → i < length ds → IsInRange 48 5
 by_index = numerals_by_value _ tells_by_index
 
 -- what a loop over the digits finds
-pub run_from : (d : ℕ) (s : List ℕ) (n : ℕ) → n ≤ room d s → n ≤ length s → ((k : ℕ) → k < n → IsInRange 48 57 (get_or s k 0)) → (n ≡ room d s) ⊎ (length s ≤ n) ⊎ (IsInRange 48 57 (get_or s n 0) → ⊥) → Run d s (take n s) (drop n s)
+run_from : (d : ℕ) (s : List ℕ) (n : ℕ) → n ≤ room d s → n ≤ length s → ((k : ℕ) → k < n → IsInRange 48 57 (get_or s k 0)) → (n ≡ room d s) ⊎ (length s ≤ n) ⊎ (IsInRange 48 57 (get_or s n 0) → ⊥) → Run d s (take n s) (drop n s)
 run_from d s n small within digits stop =
     let long = length-take-le n s within in
     record {
@@ -197,6 +198,25 @@ run_from d s n small within digits stop =
     past : (IsInRange 48 57 (get_or s n 0) → ⊥) → (n < length s) ⊎ (length s ≤ n) → Ends (drop n s)
     past nd (inl l) = rw (drop_more s n 0 l) nd
     past nd (inr l) = rw (drop_all n s l) tt
+
+-- as many digits as stand at the front, and have room
+pub run_front : (d : ℕ) (s : List ℕ) (n : ℕ) → n ≡ prefix_len is_ascii_digit (take (room d s) s) → Run d s (take n s) (drop n s)
+run_front d s n e =
+    let m = room d s in
+    let long = length-take m s in
+    let most = prefix_len-le-length is_ascii_digit (take m s) in
+    run_from d s n (omega arith) (omega arith)
+    (λ k h.
+    let p : is_ascii_digit (get_or (take m s) k 0) ≡ true = prefix_len_passes is_ascii_digit (take m s) k 0 (omega arith) in
+    let same = get_or-take m s k 0 (omega arith) in
+    rw (sym same) (search (rules, tests, p)))
+    (⊎_elim
+    (λ l.
+    let p : is_ascii_digit (get_or (take m s) n 0) ≡ false = rw e (prefix_len_stops is_ascii_digit (take m s) 0 (omega arith)) in
+    let same = get_or-take m s n 0 (omega arith) in
+    inr (inr (λ h. let d : IsInRange 48 57 (get_or (take m s) n 0) = rw same h in search (rules, tests))))
+    (λ g. ⊎_elim (λ l. inr (inl (omega arith))) (λ l. inl (omega arith)) (cases_lt (length s) m))
+    (cases_lt n (length (take m s))))
 
 room_some : (d : ℕ) (xs : List ℕ) → 0 < d → 0 < room d xs
 room_some d [] l = l
@@ -335,28 +355,19 @@ short_before ds i h l =
     let ds-at : (k : ℕ) → k < length (take i ds) → IsInRange 48 57 (get_or (take i ds) k 0) = λ k m. rw (get_or-take i ds k 0 (omega arith)) (digit_at ds k p.0 (omega arith)) in
     digits_value_short by_index (take i ds) 15 ds-at (omega (arith, p.1))
 
--- a text that is one number, and what a loop over its bytes finds
-pub number_before : (ds : List ℕ) (i : ℕ) → length ds ≤ room 8 ds → i < length ds → ((k : ℕ) → k < i → IsInRange 48 57 (get_or ds k 0)) → digits_value 10 (take i ds) < 10 ^ 7
-number_before ds i fits l digits =
-    let n = length-take-le i ds (omega arith) in
-    let m = room_most 8 ds (omega arith) in
-    let at_each : (k : ℕ) → k < length (take i ds) → IsInRange 48 57 (get_or (take i ds) k 0) = λ k p. rw (get_or-take i ds k 0 (omega arith)) (digits k (omega arith)) in
-    digits_value_short by_index (take i ds) 7 at_each (omega arith)
+-- what is read of a text that is one number
+pub number_rest : (xs ds rest : List ℕ) → NumberRead 8 xs ds rest → IsNumber 8 xs → rest ≡ []
+number_rest xs ds rest r h =
+    let written : Writes (num 8 ∷ []) (digits_value 10 xs ∷ []) (ds ++ rest) = (digits_value 10 xs, [], [], refl, h.0, sym r.split ∙ sym h.1 ∙ sym (append-nil _), (refl, refl)) in
+    let p = (r.reached [] tt).from (digits_value 10 xs ∷ []) rest refl written in
+    p.2.1
 
-pub is_number : (ds : List ℕ) → 0 < length ds → length ds ≤ room 8 ds → ((k : ℕ) → k < length ds → IsInRange 48 57 (get_or ds k 0)) → IsNumber 8 ds
-is_number ds some fits digits =
-    run_value 8 ds [] (omega arith, omega arith) some
-    (record {
-      split = refl;
-      digits = own.from ds (by_index.to ds digits);
-      fits = subst (λ l. length ds ≤ room 8 l) (sym (append-nil ds)) fits;
-      stops = inr tt;
-    })
+pub number_all : (xs ds rest : List ℕ) → NumberRead 8 xs ds rest → length rest ≡ 0 → ds ≡ xs
+number_all xs ds [] r z = sym (r.split ∙ append-nil ds)
+number_all xs ds (x ∷ rest) r z = absurd (omega arith)
 
-pub number_is : (ds : List ℕ) → IsNumber 8 ds → (0 < length ds) × (length ds ≤ room 8 ds) × ((k : ℕ) → k < length ds → IsInRange 48 57 (get_or ds k 0))
-number_is ds h =
-    let w : Wide 8 = (omega arith, omega arith) in
-    let n = digits_value 10 ds in
-    let f = short_fits 8 n w h.0 in
-    let P : List ℕ → Type 0 = λ l. (0 < length l) × (length l ≤ room 8 l) × ((k : ℕ) → k < length l → IsInRange 48 57 (get_or l k 0)) in
-    subst P h.1 (decimal_nonempty n f, subst (λ l. length (decimal n) ≤ room 8 l) (append-nil (decimal n)) (decimal_room 8 n [] w h.0), by_index.from (decimal n) (own.to (decimal n) (decimal_digits 8 n w h.0)))
+-- a scan that is stuck before a number, and so reads no text that is one
+pub no_number : (xs : List ℕ) (left : ℕ) → ((ps : List Piece) → Stuck (Writes (num 8 ∷ ps)) xs left) → IsNumber 8 xs → ⊥
+no_number xs left st h =
+    let s = st [] in
+    s.stops (digits_value 10 xs ∷ []) s.rest refl (digits_value 10 xs, [], [], refl, h.0, sym s.split ∙ sym h.1 ∙ sym (append-nil _), (refl, refl))

@@ -2,7 +2,9 @@
 use Rattle.std.proofs.Common.{◌≡◌, ℕ, ◌<◌, ◌≤◌, Bool, true, ◌&&◌, eqb, ltb, leb, List, [], ◌∷◌, ◌++◌, Some, sym, refl, ◌∙◌, ⊎_elim, arith}
 use Rattle.std.proofs.lemmas.Bool.{cond_both, cond-true, cond-false, cases_Bool, eqb-true, and_parts, leb-true, ltb-true}
 use Rattle.grammar.specs.declared.kinds.Row.{Row}
-use Rattle.grammar.specs.Kinds.{arity, kinds, filled_kinds}
+use Rattle.grammar.specs.declared.kinds.Sort.{Sort}
+use Rattle.grammar.specs.declared.kinds.Sort.TheVariants.{Input, Filled}
+use Rattle.grammar.specs.Kinds.{arity, kinds, filled_kinds, kinds_of}
 use Rattle.grammar.specs.Grammar.{Table}
 
 -- a test of the table, which antt computes
@@ -25,6 +27,10 @@ input_table = record { two_digits = λ k n e. fine_at kinds k n refl e; some = (
 
 pub filled_table : Table filled_kinds
 filled_table = record { two_digits = λ k n e. fine_at filled_kinds k n refl e; some = (10, 4, refl) }
+
+pub table_of : (s : Sort) → Table (kinds_of s)
+table_of Input = input_table
+table_of Filled = filled_table
 
 arity_more : (xs ys : List Row) (k n : ℕ) → arity xs k ≡ Some n → arity (xs ++ ys) k ≡ Some n
 arity_more [] ys k n e = let y : ◌≡◌ {A = ℕ} 0 1 = cc e in absurd (omega arith)

@@ -1,14 +1,21 @@
 -- Ten numbers, to the end of a line.
-use Rattle.std.proofs.Common.{◌≡◌, ℕ, List, [], ◌∷◌, ◌++◌, map, sym, refl, subst, append-nil}
+use Rattle.std.proofs.Common.{◌≡◌, ℕ, suc, List, [], ◌∷◌, ◌++◌, map, length, set, sym, refl, ap, ◌∙◌, subst, append-nil, arith}
+use borrow.Rule.Slice.PartMut.{put_mid}
+use Rattle.std.proofs.lemmas.List.{drop_all}
 use Rattle.std.specs.Str.Parse.{digits_value}
 use Rattle.std.specs.List.{flat_map}
 use Rattle.grammar.specs.Grammar.{Reached, NumberRead, FieldsRead, blanked, ten_numbers, TenRead, num, Writes, shape, feed, Stuck, Done}
 use Rattle.grammar.proofs.Steps.{done_after, stuck_after, not_digit_10, not_digit_32}
 
-pub ten_read : (xs d mid : List ℕ) (m : ℕ) (texts : List (List ℕ)) (rest : List ℕ) → m ≡ 9 → NumberRead 16 xs d mid → FieldsRead 16 m 0 mid texts rest → Done (Writes feed) rest [] → TenRead xs d texts
-ten_read xs d mid m texts rest e a b end = record {
-  number = a.number;
-  numbers = b.numbers;
+-- the first of ten places, and what is written to the others
+pub first_and_rest : {X : Type 0} (xs : List X) (f : X) (ys : List X) → length xs ≡ 10 → put_mid 1 9 (set xs 0 f) ys ≡ f ∷ ys
+first_and_rest [] f ys e = absurd (omega arith)
+first_and_rest (x ∷ xs) f ys e = ap (λ l. f ∷ (ys ++ l)) (drop_all 9 xs (omega arith)) ∙ ap (λ l. f ∷ l) (append-nil ys)
+
+pub ten_read : (xs d mid : List ℕ) (m : ℕ) (texts : List (List ℕ)) (rest : List ℕ) → m ≡ 9 → length texts ≡ 9 → NumberRead 16 xs d mid → FieldsRead 16 m 0 mid texts rest → Done (Writes feed) rest [] → TenRead xs (d ∷ texts)
+ten_read xs d mid m texts rest e nine_long a b end = record {
+  ten = ap suc nine_long;
+  numbers = (a.number, b.numbers);
   done =
       let nine = b.reached feed not_digit_10 in
       let tail : Done (Writes (shape 16 9 feed)) (flat_map blanked texts ++ rest) (map (digits_value 10) texts ++ []) = done_after _ _ _ _ rest [] (subst (λ n. Reached (Writes (shape 16 n feed)) (Writes feed) (flat_map blanked texts) (map (digits_value 10) texts) rest) e nine) end in

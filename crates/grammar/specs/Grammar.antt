@@ -146,7 +146,7 @@ pub record AnswerRead (xs reply result : List ℕ) : Type 0 where
   pub done : Done (Writes answer) xs (digits_value 10 reply ∷ digits_value 10 result ∷ [])
 
 -- the digits of ten numbers are read from xs, to its end
-pub record TenRead (xs d : List ℕ) (texts : List (List ℕ)) : Type 0 where
-  pub number : IsNumber 16 d
+pub record TenRead (xs : List ℕ) (texts : List (List ℕ)) : Type 0 where
+  pub ten : length texts ≡ 10
   pub numbers : AllByRecursion (IsNumber 16) texts
-  pub done : Done (Writes ten_numbers) xs (digits_value 10 d ∷ map (digits_value 10) texts)
+  pub done : Done (Writes ten_numbers) xs (map (digits_value 10) texts)

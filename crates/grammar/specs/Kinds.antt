@@ -2,6 +2,8 @@
 use Rattle.std.specs.Prelude.{◌≡◌, ℕ, ◌^◌, ◌<◌, cond, List, [], ◌∷◌, ◌++◌, length, Some, None, decimal, Option, ◌==◌, ◌≢◌, slice_index_or}
 use Rattle.std.specs.Str.Parse.{digits_value}
 use Rattle.grammar.specs.declared.kinds.Row.{Row}
+use Rattle.grammar.specs.declared.kinds.Sort.{Sort}
+use Rattle.grammar.specs.declared.kinds.Sort.TheVariants.{Input, Filled}
 
 -- the kind of the row at place i
 abbrev kind_at : List Row → ℕ → ℕ
@@ -27,6 +29,11 @@ kinds = row 10 4 ∷ row 11 2 ∷ row 12 3 ∷ row 13 7 ∷ row 15 2 ∷ row 16 
 -- the kinds of filled lines: kind 99 stands for a faulty input line
 abbrev pub filled_kinds : List Row
 filled_kinds = kinds ++ (row 99 0 ∷ [])
+
+-- the kinds of lines of a sort
+abbrev pub kinds_of : Sort → List Row
+kinds_of Input = kinds
+kinds_of Filled = filled_kinds
 
 -- n has at most d digits
 abbrev pub Short : ℕ → ℕ → Type 0

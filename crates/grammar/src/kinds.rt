@@ -1,9 +1,17 @@
 // The kinds of lines.
 ghost use Rattle.std.specs.Prelude.{◌≡◌};
-ghost use Rattle.grammar.specs.Kinds.{FirstPlace, kinds, filled_kinds};
+ghost use Rattle.grammar.specs.Kinds.{FirstPlace, arity, kinds_of};
+
+// The sorts of archive lines: as they come in, and filled with their answer.
+#[derive(Clone, Copy, PartialEq, Eq, Debug)]
+pub enum Sort {
+    Input,
+    Filled,
+}
 
 // A kind of line, and how many fields it has.
-#[derive(Clone, Copy)]
+// Kept: the kind is the number that the archive's lines have, and `find` is asked for any.
+#[derive(Clone, Copy, PartialEq, Eq, Debug)]
 pub struct Row {
     pub kind: u8,
     pub fields: usize,
@@ -13,12 +21,15 @@ pub struct Row {
 pub fn find(rows: &[Row], kind: u8) -> Option<usize>
     ensures { FirstPlace rows.now kind result }
 {
-    for (i, row) in rows.iter().enumerate() {
-        if row.kind == kind {
-            return Some(i);
-        }
-    }
-    None
+    rows.iter().position(|row| row.kind == kind)
+}
+
+// How many fields a line of that kind has, by the first row with it.
+pub fn fields_of(rows: &[Row], kind: u8) -> Option<usize>
+    ensures { result ≡ arity rows.now kind }
+{
+    let place = find(rows, kind)?;
+    Some(rows[place].fields)
 }
 
 // The kinds of lines. The last, of a faulty line, is for filled lines only.
@@ -113,16 +124,12 @@ const KINDS: [Row; 22] = [
     },
 ];
 
-// The kinds of input lines.
-pub fn input_kinds() -> &'static [Row]
-    ensures { result.now ≡ kinds }
+// The kinds of lines of a sort.
+pub fn kinds_of(sort: Sort) -> &'static [Row]
+    ensures { result.now ≡ kinds_of sort }
 {
-    &KINDS[0..21]
-}
-
-// The kinds of filled lines.
-pub fn all_kinds() -> &'static [Row]
-    ensures { result.now ≡ filled_kinds }
-{
-    &KINDS
+    match sort {
+        Sort::Input => &KINDS[..21],
+        Sort::Filled => &KINDS,
+    }
 }

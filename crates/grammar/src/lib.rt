@@ -5,6 +5,6 @@ mod kinds;
 mod scan;
 mod ten;
 
-pub use kinds::{Row, all_kinds, find, input_kinds};
-pub use scan::{Head, number, read_answer, read_feed, read_filled_start, read_input_start};
+pub use kinds::{Row, Sort, fields_of, find, kinds_of};
+pub use scan::{Head, number, read_answer, read_feed, read_start};
 pub use ten::read_ten;

@@ -2,10 +2,10 @@
 ghost use Rattle.std.specs.Prelude.{◌≡◌, ◌+◌, ◌<◌, List, [], ◌∷◌, map, length, take, Some, MatchOption, MatchResult, ◌≢◌};
 ghost use Rattle.std.specs.Str.Parse.{digits_value};
 ghost use Rattle.std.specs.Int.{IsInRange};
-ghost use Rattle.grammar.specs.Kinds.{kinds, filled_kinds, IsNumber};
+ghost use Rattle.grammar.specs.Kinds.{kinds_of, IsNumber};
 ghost use Rattle.grammar.specs.Grammar.{Piece, num, Writes, Wide, Delim, shape, first, room, Run, Stuck, NumberRead, FieldsRead, Lines, Table, KindRead, SecondRead, NoSecond, Leads, StartRead, Done, AnswerRead, feed, answer};
 
-use super::kinds::{Row, all_kinds, find, input_kinds};
+use super::kinds::{Row, Sort, fields_of, kinds_of};
 
 // How many digits a number of a line has at most.
 const DIGITS: usize = 8;
@@ -15,8 +15,8 @@ fn room_at(s: &[u8], width: usize) -> usize
     ensures { result ≡ room width s.now }
 {
     match s {
-        [] => width,
-        [x, ..] => if *x == b'0' { 1 } else { width },
+        [b'0', ..] => 1,
+        _ => width,
     }
 }
 
@@ -24,11 +24,11 @@ fn room_at(s: &[u8], width: usize) -> usize
 fn digit_run(s: &[u8], width: usize) -> (&[u8], &[u8])
     ensures { Run width s.now result.0.now result.1.now }
 {
-    let room = room_at(s, width);
-    let mut n = 0;
-    while n < room && n < s.len() && s[n].is_ascii_digit() {
-        n += 1;
-    }
+    let n = s
+        .iter()
+        .take(room_at(s, width))
+        .take_while(|b| b.is_ascii_digit())
+        .count();
     s.split_at(n)
 }
 
@@ -36,12 +36,7 @@ fn digit_run(s: &[u8], width: usize) -> (&[u8], &[u8])
 fn after<'a>(s: &'a [u8], b: u8) -> Result<&'a [u8], usize>
     ensures { MatchResult result (λ rest. s.now ≡ b ∷ rest.now) (λ left. (left ≡ length s.now) × (first s.now ≢ Some b)) }
 {
-    if let Some((x, rest)) = s.split_first() {
-        if *x == b {
-            return Ok(rest);
-        }
-    }
-    Err(s.len())
+    s.strip_prefix(&[b]).ok_or(s.len())
 }
 
 // The digits of a number, and what follows.
@@ -71,9 +66,7 @@ pub(crate) fn fields<'a>(s: &'a [u8], width: usize, out: &mut [&'a [u8]]) -> Res
 {
     let mut rest = s;
     for place in out.iter_mut() {
-        let (digits, next) = field(rest, width)?;
-        *place = digits;
-        rest = next;
+        (*place, rest) = field(rest, width)?;
     }
     Ok(rest)
 }
@@ -82,11 +75,7 @@ pub(crate) fn fields<'a>(s: &'a [u8], width: usize, out: &mut [&'a [u8]]) -> Res
 fn digit(b: u8) -> Option<u8>
     ensures { MatchOption result (IsInRange 48 57 b → ⊥) (λ d. (d < 10) × (b ≡ 48 + d)) }
 {
-    if b.is_ascii_digit() {
-        Some(b - b'0')
-    } else {
-        None
-    }
+    b.is_ascii_digit().then(|| b - b'0')
 }
 
 // The value of the digits of a number.
@@ -105,17 +94,14 @@ pub(crate) fn value_of(digits: &[u8]) -> u64
 pub fn number(field: &[u8]) -> Option<u32>
     ensures { MatchOption result (IsNumber 8 field.now → ⊥) (λ n. IsNumber 8 field.now × (n ≡ digits_value 10 field.now)) }
 {
-    if field.is_empty() || field.len() > room_at(field, DIGITS) {
+    let Ok((digits, rest)) = read_number(field, DIGITS) else {
         return None;
+    };
+    if rest.is_empty() {
+        Some(value_of(digits) as u32)
+    } else {
+        None
     }
-    let mut n: u32 = 0;
-    for b in field {
-        if !b.is_ascii_digit() {
-            return None;
-        }
-        n = n * 10 + u32::from(*b - b'0');
-    }
-    Some(n)
 }
 
 // A kind with its number of fields, and what follows it in a line.
@@ -131,12 +117,7 @@ fn leads(rows: &[Row], tens: u8) -> bool
     requires { tens < 10 }
     ensures { Leads rows.now tens result }
 {
-    for d in 0u8..10 {
-        if let Some(_place) = find(rows, 10 * tens + d) {
-            return true;
-        }
-    }
-    false
+    rows.iter().any(|row| row.kind / 10 == tens)
 }
 
 // The kind with `tens` for its first digit, and its second at the start of `s`.
@@ -145,13 +126,9 @@ fn second_digit<'a>(s: &'a [u8], rows: &[Row], tens: u8) -> Option<Head<'a>>
     ensures { MatchOption result (NoSecond rows.now tens s.now) (λ h. SecondRead rows.now tens s.now h.kind h.fields h.rest.now) }
 {
     let (b, rest) = s.split_first()?;
-    let ones = digit(*b)?;
-    let place = find(rows, 10 * tens + ones)?;
-    Some(Head {
-        kind: 10 * tens + ones,
-        fields: rows[place].fields,
-        rest,
-    })
+    let kind = 10 * tens + digit(*b)?;
+    let fields = fields_of(rows, kind)?;
+    Some(Head { kind, fields, rest })
 }
 
 // The kind at the start of a line.
@@ -167,44 +144,22 @@ fn read_kind<'a>(line: &'a [u8], rows: &[Row]) -> Result<Head<'a>, usize>
     };
     match second_digit(more, rows, tens) {
         Some(head) => Ok(head),
-        None => if leads(rows, tens) {
-            Err(more.len())
-        } else {
-            Err(line.len())
-        },
+        None if leads(rows, tens) => Err(more.len()),
+        None => Err(line.len()),
     }
 }
 
-// The kind and the fields at the start of a line.
-pub(crate) fn read_start<'a>(
+// The kind and the fields at the start of a line of a sort.
+pub fn read_start<'a>(
     line: &'a [u8],
-    rows: &[Row],
+    sort: Sort,
     out: &mut [&'a [u8]; 7],
 ) -> Result<Head<'a>, usize>
-    requires { Table rows.now }
-    ensures { MatchResult result (λ h. StartRead rows.now line.now h.kind (map (λ d. d.now) (take h.fields out.new)) h.rest.now) (λ left. (t : List Piece) → Delim t → Stuck (Lines rows.now t) line.now left) }
+    ensures { MatchResult result (λ h. StartRead (kinds_of sort) line.now h.kind (map (λ d. d.now) (take h.fields out.new)) h.rest.now) (λ left. (t : List Piece) → Delim t → Stuck (Lines (kinds_of sort) t) line.now left) }
 {
-    let head = read_kind(line, rows)?;
-    let rest = fields(head.rest, DIGITS, &mut out[0..head.fields])?;
-    Ok(Head {
-        kind: head.kind,
-        fields: head.fields,
-        rest,
-    })
-}
-
-// The kind and the fields at the start of an input line.
-pub fn read_input_start<'a>(line: &'a [u8], out: &mut [&'a [u8]; 7]) -> Result<Head<'a>, usize>
-    ensures { MatchResult result (λ h. StartRead kinds line.now h.kind (map (λ d. d.now) (take h.fields out.new)) h.rest.now) (λ left. (t : List Piece) → Delim t → Stuck (Lines kinds t) line.now left) }
-{
-    read_start(line, input_kinds(), out)
-}
-
-// The kind and the fields at the start of a filled line.
-pub fn read_filled_start<'a>(line: &'a [u8], out: &mut [&'a [u8]; 7]) -> Result<Head<'a>, usize>
-    ensures { MatchResult result (λ h. StartRead filled_kinds line.now h.kind (map (λ d. d.now) (take h.fields out.new)) h.rest.now) (λ left. (t : List Piece) → Delim t → Stuck (Lines filled_kinds t) line.now left) }
-{
-    read_start(line, all_kinds(), out)
+    let head = read_kind(line, kinds_of(sort))?;
+    let rest = fields(head.rest, DIGITS, &mut out[..head.fields])?;
+    Ok(Head { rest, ..head })
 }
 
 // A line feed, and nothing after it.

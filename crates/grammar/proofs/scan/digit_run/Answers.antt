@@ -1,20 +1,18 @@
-use Rattle.std.proofs.Common.{◌≡◌, ◌≤◌, ◌⊎◌, length, get_or, take, sym, subst, inl, inr, arith, rules}
-use Rattle.std.specs.Int.{IsInRange}
-use Rattle.grammar.specs.Grammar.{Run, room}
-use Rattle.grammar.proofs.Steps.{run_from}
+use Rattle.std.proofs.Common.{take, ◌∙◌, rules, tests}
+use Rattle.std.specs.Char.{is_ascii_digit}
+use Rattle.std.proofs.lemmas.List.Folds.{length-prefix_len}
+use Rattle.std.proofs.lemmas.Iterator.{YieldsList-from_slice, YieldsList-from_take}
+use Rattle.std.proofs.lemmas.Iterator.Consumers.{YieldsList-at, count_from_yields_List}
+use Rattle.std.proofs.lemmas.Iterator.Search.{YieldsList-from_take_while}
+use Rattle.grammar.specs.Grammar.{room}
+use Rattle.grammar.proofs.Steps.{run_front}
 use Rattle.grammar.proofs.scan.digit_run.Goals as goal
-use Rattle.grammar.proofs.scan.digit_run.Goals.{then-loop-n-test+then-n-s+else-is_ascii_digit, then-loop-n-test+else-n-s, else-loop-n-test}
 
 pub returns : goal.returns
 returns c =
     let s = c.args.s.now in
-    let n = c.loop-n.n in
-    let same = c.room_at-room.ensures in
-    let stop : (n ≡ room c.args.width s) ⊎ (length s ≤ n) ⊎ (IsInRange 48 57 (get_or s n 0) → ⊥) = elim c.loop-n-test.branch [
-      | then-loop-n-test+then-n-s+else-is_ascii_digit w ↦ inr (inr (λ d. search rules))
-      | then-loop-n-test+else-n-s w ↦ inr (inl w.if-n-s.false)
-      | else-loop-n-test w ↦ inl (omega arith)
-    ] in
-    let run = run_from c.args.width s n (omega arith) (omega arith) c.loop-n.invariant.2 stop in
-    subst (λ l. Run c.args.width s l c.split_at.result.1.now) (sym c.split_at.ensures.front)
-    (subst (λ l. Run c.args.width s (take n s) l) (sym c.split_at.ensures.back) run)
+    let front = YieldsList-from_take (room c.args.width s) (YieldsList-at c.take.ensures.source (YieldsList-from_slice s cc)) (c.take.ensures.count ∙ c.room_at.ensures) in
+    let n =
+    count_from_yields_List c.take_while.result _ c.count-n.ensures.ran
+    (YieldsList-from_take_while _ is_ascii_digit (YieldsList-at c.take_while.ensures.source front) c.take_while.ensures.closure c.take_while.ensures.done (λ x b q k. search (rules, tests))) in
+    rw (c.split_at.ensures.front, c.split_at.ensures.back) (run_front c.args.width s _ (n ∙ length-prefix_len is_ascii_digit (take (room c.args.width s) s)))

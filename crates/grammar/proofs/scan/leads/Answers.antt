@@ -1,9 +1,8 @@
-use Rattle.std.proofs.Common.{arith, below_more}
-use Rattle.grammar.proofs.Rows.{found, not_found}
+use Rattle.std.proofs.Common.{◌/◌, eqb, rules, tests}
+use Rattle.std.proofs.lemmas.Iterator.{YieldsList-from_slice}
+use Rattle.std.proofs.lemmas.Iterator.Search.{any_from_yields_List}
+use Rattle.grammar.proofs.Rows.{leads_any}
 use Rattle.grammar.proofs.scan.leads.Goals as goal
 
-pub returns-in-Some : goal.returns-in-Some
-returns-in-Some c = (c.loop-d.d, _, omega arith, found _ _ _ c.in-Some.ensures)
-
-pub loop-d-preserved : goal.loop-d-preserved
-loop-d-preserved c = below_more _ _ c.loop-d.invariant (not_found _ _ c.in_default.ensures)
+pub returns : goal.returns
+returns c = leads_any _ _ _ (any_from_yields_List (λ r. eqb (r.kind / 10) c.args.tens) _ _ _ c.any.ensures.ran (YieldsList-from_slice c.args.rows.now cc) (λ x b q k. search (rules, tests)))

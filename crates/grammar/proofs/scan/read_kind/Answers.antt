@@ -18,13 +18,13 @@ returns-in-Some-second_digit c =
     let b = c.in-Some-digit.ensures in
     kind_of_second _ c.requires _ _ _ _ _ _ _ b.0 b.1 c.in-Some.ensures.cases.0 c.in-Some-second_digit.ensures
 
-pub returns-then-leads : goal.returns-then-leads
-returns-then-leads c t =
+pub returns-in-None : goal.returns-in-None
+returns-in-None c t =
     let b = c.in-Some-digit.ensures in
     stuck_second _ c.requires t _ _ _ _ _ c.in-Some.ensures.cases.0 refl b.0 b.1 c.if-leads.ensures c.in-None.ensures
 
-pub returns-else-leads : goal.returns-else-leads
-returns-else-leads c t =
+pub returns-in-None-2 : goal.returns-in-None-2
+returns-in-None-2 c t =
     stuck_first _ c.requires t _ _ refl
     (λ k n known f.
     let e = first_is _ _ _ _ c.in-Some.ensures.cases.0 f in

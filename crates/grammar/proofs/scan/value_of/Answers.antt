@@ -1,6 +1,4 @@
-use Rattle.std.proofs.Common.{◌-◌, get_or, ap, ◌∙◌, arith, rules}
-use Rattle.std.specs.Str.Parse.{digits_value}
-use Rattle.std.proofs.lemmas.List.{take_all}
+use Rattle.std.proofs.Common.{◌-◌, get_or, arith, rules}
 use Rattle.std.proofs.lemmas.Int.Digits.{digits_value_more}
 use Rattle.grammar.proofs.Steps.{digit_in, short_before, digit_is}
 use Rattle.grammar.proofs.scan.value_of.Goals as goal
@@ -22,6 +20,3 @@ loop-b-preserved c =
     let v = digit_is (get_or ds i 0) (get_or ds i 0 - 48) (omega arith) (omega arith) in
     let e = digits_value_more 10 ds i (omega arith) in
     omega (arith, e, v, c.loop-b.invariant)
-
-pub returns : goal.returns
-returns c = c.loop-b.invariant ∙ ap (digits_value 10) (take_all c.loop-b.b-index c.args.digits.now (omega arith))
