@@ -17,7 +17,7 @@ use crate::places::{no_line, text_at};
 use crate::unread::Unread;
 use book::{Book, InputPass, Pass};
 use draws::Reply;
-use lines::{Text, fill, fill_faulty, read_input};
+use lines::{Answer, Text, fill, fill_faulty, read_input};
 use parts::Line as ReadLine;
 use register::{Call, Opening};
 use settlement::Line;
@@ -162,7 +162,11 @@ impl Host {
         };
         let kind = read.kind();
         let reply = self.reply_to(kind, numbers.as_slice());
-        fill(text, line, reply.number, reply.result);
+        let answer = Answer {
+            reply: reply.number,
+            result: reply.result,
+        };
+        fill(text, line, answer);
         statements_after(kind, reply)
     }
 
