@@ -1,8 +1,10 @@
 -- Lines that are put together from their parts.
-use Rattle.std.proofs.Common.{◌≡◌, ℕ, ◌≤◌, List, [], ◌∷◌, ◌++◌, map, length, Some, decimal, sym, refl, ap, ◌∙◌, append_assoc, arith}
+use Rattle.std.proofs.Common.{◌≡◌, ℕ, ◌<◌, ◌≤◌, Bool, true, false, MatchBool, Decides, List, [], ◌∷◌, ◌++◌, map, length, Some, decimal, sym, refl, ap, ◌∙◌, append_assoc, arith}
 use Rattle.std.specs.Str.Parse.{digits_value}
-use Rattle.std.specs.List.{flat_map, AllByRecursion}
+use Rattle.std.specs.List.{flat_map, AllByRecursion, AllWithin, HoldsAt}
 use Rattle.std.proofs.lemmas.List.{length-map}
+use Rattle.std.proofs.lemmas.Bool.{false≢true}
+use Rattle.std.proofs.lemmas.List.Elements.{recursion_from_All, All-from_recursion}
 use Rattle.grammar.specs.Kinds.{arity, kinds, filled_kinds, Short, IsNumber}
 use Rattle.grammar.specs.Grammar.{blanked}
 use Rattle.lines.specs.Lines.{fields_text, answer_text, InputLine, FilledLine}
@@ -43,3 +45,8 @@ fields_made k ts a b t u known digits answer e f =
       digits = digits;
       is = filled_made k (map (digits_value 10) ts) a b t u (known ∙ ap Some (sym (length-map ts (digits_value 10)))) (numbers_short ts digits) answer (e ∙ ap (λ l. cut (decimal k ++ l)) (numbers_text ts digits)) f;
     }
+
+-- a test of each element, from where it ends
+pub decides_all : {X : Type 0} (P : X → Type 0) (xs : List X) (d : X) (r : Bool) → MatchBool r (AllWithin P xs 0 (length xs)) ((k : ℕ) × (k < length xs) × HoldsAt (λ x. P x → ⊥) xs k) → Decides r (AllByRecursion P xs)
+decides_all P xs d true h = (λ e. recursion_from_All P xs (λ k x l. h k x (omega arith) l), λ g. refl)
+decides_all P xs d false h = (λ e. absurd (false≢true e), λ g. absurd (h.2 d (All-from_recursion P xs g h.0 d h.1)))

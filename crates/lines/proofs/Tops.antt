@@ -1,17 +1,21 @@
 -- Whole lines: from a scan to what was written.
-use Rattle.std.proofs.Common.{◌≡◌, ℕ, zero, suc, ◌+◌, ◌-◌, ◌<◌, List, [], ◌∷◌, ◌++◌, map, length, take, drop, Some, decimal, sym, refl, ap, ◌∙◌, subst, append_assoc, append-nil, arith, Bor}
+use Rattle.std.proofs.Common.{◌≡◌, ℕ, zero, suc, ◌+◌, ◌-◌, ◌<◌, ◌≤◌, min, List, [], ◌∷◌, ◌++◌, map, length, take, drop, Some, Ok, Err, decimal, Result, MatchResult, IsErrAnd, sym, refl, ap, ◌∙◌, subst, append_assoc, append-nil, arith, Bor}
 use Rattle.std.specs.Str.Parse.{digits_value}
 use Rattle.std.specs.List.{AllByRecursion}
 use Rattle.std.proofs.lemmas.List.{take_at, take-append-drop, length-append, length-map, same_from_push}
 use Rattle.grammar.specs.declared.kinds.Row.{Row}
-use Rattle.grammar.specs.Kinds.{arity, kinds, filled_kinds, Short, IsNumber}
+use Rattle.grammar.specs.declared.kinds.Sort.{Sort}
+use Rattle.grammar.specs.declared.kinds.Sort.TheVariants.{Input, Filled}
+use Rattle.grammar.specs.Kinds.{arity, kinds, filled_kinds, kinds_of, Short, IsNumber}
 use Rattle.lines.specs.Lines.{fields_text, InputLine, FilledLine, IsInput, IsFilled, LongestStart}
 use Rattle.grammar.specs.Grammar.{Piece, Writes, shape, feed, answer, Lines, first, Stuck, StartRead, Done, AnswerRead}
 use Rattle.parts.specs.declared.line.Line.{Line}
 use Rattle.parts.specs.Parts.{kind_of, parts_of, numbers_of}
 use Rattle.lines.specs.Reads.{ReadsInput, reply_of, result_of, ReadsFilled}
-use Rattle.parts.specs.declared.line.Filled.{Filled}
+use Rattle.parts.specs.declared.line.Filled as read
+use Rattle.lines.specs.declared.read.Faulty.{Faulty}
 use Rattle.parts.proofs.Cuts.{take_past}
+use Rattle.grammar.proofs.Tables.{known_filled}
 use Rattle.grammar.proofs.Steps.{done_after, not_digit_10, answer_delim}
 
 -- fields and what follows them
@@ -114,29 +118,33 @@ faulty L G s left n to from st e =
 take_own : {X : Type 0} (f : ℕ) (xs : List X) → take (length (take f xs)) xs ≡ take f xs
 take_own f xs = ap (take (length (take f xs))) (sym (take-append-drop f xs)) ∙ take_at (take f xs) (drop f xs) (length (take f xs)) refl
 
--- what `line_of` makes of the fields that were read
-pub line_made : (rows : List Row) (w : List ℕ) (k f : ℕ) (out : List (Bor (List ℕ))) (rest : List ℕ) (l : Line) → ((n : ℕ) → arity rows k ≡ Some n → arity filled_kinds k ≡ Some n) → StartRead rows w k (map (λ d. d.now) (take f out)) rest → ((n : ℕ) → arity filled_kinds k ≡ Some n → (kind_of l ≡ k) × (parts_of l ≡ map (λ d. d.now) (take n out))) → (kind_of l ≡ k) × (parts_of l ≡ map (λ d. d.now) (take f out))
-line_made rows w k f out rest l widen start made =
-    let p = made (length (map (λ d. d.now) (take f out))) (widen _ start.known) in
-    let n : length (map (λ d. d.now) (take f out)) ≡ length (take f out) = length-map (take f out) (λ d. d.now) in
-    (p.0, p.1 ∙ ap (λ x. map (λ d. d.now) (take x out)) n ∙ ap (map (λ d. d.now)) (take_own f out))
+known_of : (s : Sort) (k n : ℕ) → arity (kinds_of s) k ≡ Some n → arity filled_kinds k ≡ Some n
+known_of Input k n e = known_filled k n e
+known_of Filled k n e = e
 
-pub input_read : (w : List ℕ) (k : ℕ) (texts : List (List ℕ)) (rest : List ℕ) (l : Line) → StartRead kinds w k texts rest → Done (Writes feed) rest [] → (kind_of l ≡ k) × (parts_of l ≡ texts) → ReadsInput w l
-input_read w k texts rest l start end is =
-    let all : Done (Lines kinds feed) w ((k ∷ map (digits_value 10) texts) ++ []) = rw start.split (done_after _ _ _ _ rest [] (start.reached feed not_digit_10) end) in
+-- what `line_of` makes of the fields that were read
+pub start_made : (s : Sort) (w : List ℕ) (k f : ℕ) (out : List (Bor (List ℕ))) (rest : List ℕ) (l : Line) → StartRead (kinds_of s) w k (map (λ d. d.now) (take f out)) rest → ((n : ℕ) → arity filled_kinds k ≡ Some n → (kind_of l ≡ k) × (parts_of l ≡ map (λ d. d.now) (take n out))) → StartRead (kinds_of s) w (kind_of l) (parts_of l) rest
+start_made s w k f out rest l start made =
+    let p = made (length (map (λ d. d.now) (take f out))) (known_of s k _ start.known) in
+    let n : length (map (λ d. d.now) (take f out)) ≡ length (take f out) = length-map (take f out) (λ d. d.now) in
+    let parts : parts_of l ≡ map (λ d. d.now) (take f out) = p.1 ∙ ap (λ x. map (λ d. d.now) (take x out)) n ∙ ap (map (λ d. d.now)) (take_own f out) in
+    rw (p.0, parts) start
+
+pub input_read : (w : List ℕ) (rest : List ℕ) (l : Line) → StartRead kinds w (kind_of l) (parts_of l) rest → Done (Writes feed) rest [] → ReadsInput w l
+input_read w rest l start end =
+    let all : Done (Lines kinds feed) w ((kind_of l ∷ numbers_of l) ++ []) = rw start.split (done_after _ _ _ _ rest [] (start.reached feed not_digit_10) end) in
     let p = input_from _ w all.is in
-    let e : ◌≡◌ {A = List ℕ} (k ∷ map (digits_value 10) texts) (p.0 ∷ p.1) = sym (append-nil (k ∷ map (digits_value 10) texts)) ∙ p.2 in
-    let ek : p.0 ≡ kind_of l = cc (e, is.0) in
-    let en : p.1 ≡ map (digits_value 10) texts = cc e in
-    let nums : p.1 ≡ numbers_of l = en ∙ ap (map (digits_value 10)) (sym is.1) in
+    let e : ◌≡◌ {A = List ℕ} (kind_of l ∷ numbers_of l) (p.0 ∷ p.1) = sym (append-nil (kind_of l ∷ numbers_of l)) ∙ p.2 in
+    let ek : p.0 ≡ kind_of l = cc e in
+    let en : p.1 ≡ numbers_of l = cc e in
     record {
-      digits = subst (AllByRecursion (IsNumber 8)) (sym is.1) start.numbers;
-      is = subst (λ x. InputLine x (numbers_of l) w) ek (subst (λ x. InputLine p.0 x w) nums p.3);
+      digits = start.numbers;
+      is = subst (λ x. InputLine x (numbers_of l) w) ek (subst (λ x. InputLine p.0 x w) en p.3);
       only = λ k' ns h.
           let o = all.only (k' ∷ ns) (input_to k' ns w h) ∙ p.2 in
           let ok : k' ≡ p.0 = cc o in
           let on : ns ≡ p.1 = cc o in
-          (ok ∙ ek, on ∙ nums);
+          (ok ∙ ek, on ∙ en);
     }
 
 head_same : (x y : ℕ) (xs ys : List ℕ) → ◌≡◌ {A = List ℕ} (x ∷ xs) (y ∷ ys) → x ≡ y
@@ -151,25 +159,24 @@ same_two xs ys a b a' b' e =
     let q = same_from_push xs ys a a' p.0 in
     (q.0, q.1, p.1)
 
-pub filled_read : (w : List ℕ) (k : ℕ) (texts : List (List ℕ)) (rest : List ℕ) (f : Filled) → StartRead filled_kinds w k texts rest → AnswerRead rest f.reply.now f.result.now → (kind_of f.line ≡ k) × (parts_of f.line ≡ texts) → ReadsFilled w f
-filled_read w k texts rest f start end is =
-    let all : Done (Lines filled_kinds answer) w ((k ∷ map (digits_value 10) texts) ++ (reply_of f ∷ result_of f ∷ [])) = rw start.split (done_after _ _ _ _ rest _ (start.reached answer answer_delim) end.done) in
-    let p = filled_from ((k ∷ map (digits_value 10) texts) ++ (reply_of f ∷ result_of f ∷ [])) w all.is in
+pub filled_read : (w : List ℕ) (rest : List ℕ) (f : read.Filled) → StartRead filled_kinds w (kind_of f.line) (parts_of f.line) rest → AnswerRead rest f.reply.now f.result.now → ReadsFilled w f
+filled_read w rest f start end =
+    let all : Done (Lines filled_kinds answer) w ((kind_of f.line ∷ numbers_of f.line) ++ (reply_of f ∷ result_of f ∷ [])) = rw start.split (done_after _ _ _ _ rest _ (start.reached answer answer_delim) end.done) in
+    let p = filled_from ((kind_of f.line ∷ numbers_of f.line) ++ (reply_of f ∷ result_of f ∷ [])) w all.is in
     let e = p.4 in
-    let ek : p.0 ≡ kind_of f.line = sym (head_same _ _ _ _ e) ∙ sym is.0 in
-    let tl : map (digits_value 10) texts ++ (reply_of f ∷ result_of f ∷ []) ≡ p.1 ++ (p.2 ∷ p.3 ∷ []) = tail_same _ _ _ _ e in
-    let q = same_two (map (digits_value 10) texts) p.1 _ _ _ _ tl in
-    let nums : p.1 ≡ numbers_of f.line = sym q.0 ∙ ap (map (digits_value 10)) (sym is.1) in
+    let ek : p.0 ≡ kind_of f.line = sym (head_same _ _ _ _ e) in
+    let tl : numbers_of f.line ++ (reply_of f ∷ result_of f ∷ []) ≡ p.1 ++ (p.2 ∷ p.3 ∷ []) = tail_same _ _ _ _ e in
+    let q = same_two (numbers_of f.line) p.1 _ _ _ _ tl in
     record {
-      digits = subst (AllByRecursion (IsNumber 8)) (sym is.1) start.numbers;
+      digits = start.numbers;
       answer_digits = end.numbers;
-      is = subst (λ x. FilledLine x (numbers_of f.line) (reply_of f) (result_of f) w) ek (subst (λ x. FilledLine p.0 x (reply_of f) (result_of f) w) nums (subst (λ x. FilledLine p.0 p.1 x (result_of f) w) (sym q.1) (subst (λ x. FilledLine p.0 p.1 p.2 x w) (sym q.2) p.5)));
+      is = subst (λ x. FilledLine x (numbers_of f.line) (reply_of f) (result_of f) w) ek (subst (λ x. FilledLine p.0 x (reply_of f) (result_of f) w) (sym q.0) (subst (λ x. FilledLine p.0 p.1 x (result_of f) w) (sym q.1) (subst (λ x. FilledLine p.0 p.1 p.2 x w) (sym q.2) p.5)));
       only = λ k' ns a b h.
           let o = all.only _ (filled_to k' ns a b w h) ∙ e in
           let ok : k' ≡ p.0 = head_same _ _ _ _ o in
           let ot : ns ++ (a ∷ b ∷ []) ≡ p.1 ++ (p.2 ∷ p.3 ∷ []) = tail_same _ _ _ _ o in
           let r = same_two ns p.1 _ _ _ _ ot in
-          (ok ∙ ek, r.0 ∙ nums, r.1 ∙ sym q.1, r.2 ∙ sym q.2);
+          (ok ∙ ek, r.0 ∙ sym q.0, r.1 ∙ sym q.1, r.2 ∙ sym q.2);
     }
 
 pub input_faulty : (s : List ℕ) (left : ℕ) → Stuck (Lines kinds feed) s left → LongestStart IsInput s (length s - left)
@@ -177,3 +184,16 @@ input_faulty s left st = faulty IsInput (Lines kinds feed) s left _ (λ ms w h. 
 
 pub filled_faulty : (s : List ℕ) (left : ℕ) → Stuck (Lines filled_kinds answer) s left → LongestStart IsFilled s (length s - left)
 filled_faulty s left st = faulty IsFilled (Lines filled_kinds answer) s left _ (λ ms w h. let p = filled_from ms w h in (p.0, p.1, p.2, p.3, p.5)) (λ w l. (_, filled_to _ _ _ _ _ l.4)) st refl
+
+-- the start of a fault has room for what any line has
+start_told : (L : List ℕ → Type 0) (most : ℕ) (s : List ℕ) (left : ℕ) (f : Faulty) → LongestStart L s (length s - left) → ((n : ℕ) → LongestStart L s n → n ≤ most) → most ≤ 170 → f.start ≡ min (length s - left) 170 → LongestStart L s f.start × (f.start ≤ most)
+start_told L most s left f h short fits e =
+    let m = short _ h in
+    let same : length s - left ≡ f.start = omega arith in
+    (subst (LongestStart L s) same h, omega arith)
+
+-- a scan that got stuck, told by the start of the fault
+pub told : {X : Type 0} (L : List ℕ → Type 0) (most : ℕ) (s : List ℕ) (r : Result X ℕ) (q : Result X Faulty) (P : X → Type 0) (S : ℕ → Type 0) (G : ℕ → Faulty → Type 0) → MatchResult r P S → MatchResult r (λ x. q ≡ Ok x) (λ e. IsErrAnd q (G e)) → ((e : ℕ) → S e → LongestStart L s (length s - e)) → ((n : ℕ) → LongestStart L s n → n ≤ most) → most ≤ 170 → ((e : ℕ) (f : Faulty) → G e f → f.start ≡ min (length s - e) 170) → MatchResult q P (λ f. LongestStart L s f.start × (f.start ≤ most))
+told L most s (Ok x) q P S G h same st short fits by = subst (λ o. MatchResult o P (λ f. LongestStart L s f.start × (f.start ≤ most))) (sym same) h
+told L most s (Err e) (Ok x) P S G h at st short fits by = absurd at
+told L most s (Err e) (Err f) P S G h at st short fits by = start_told L most s e f (st e h) short fits (by e f at)

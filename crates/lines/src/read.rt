@@ -1,66 +1,65 @@
 // Reading input lines and filled lines.
-ghost use Rattle.std.specs.Prelude.{◌≡◌, ◌-◌, ◌≤◌, length, MatchResult};
-ghost use Rattle.grammar.specs.Kinds.{kinds, filled_kinds};
+ghost use Rattle.std.specs.Prelude.{◌≡◌, ℕ, ◌-◌, ◌≤◌, min, List, length, MatchResult};
+ghost use Rattle.grammar.specs.Kinds.{kinds_of, kinds, filled_kinds};
+ghost use Rattle.grammar.specs.Grammar.{Piece, Delim, StartRead, Stuck, Lines, feed, answer};
+ghost use Rattle.parts.specs.Parts.{kind_of, parts_of};
 ghost use Rattle.lines.specs.Lines.{IsInput, IsFilled, LongestStart};
-ghost use Rattle.parts.specs.declared.line.Line.{Line};
-ghost use Rattle.parts.specs.Parts.{Made};
 ghost use Rattle.lines.specs.Reads.{ReadsInput, ReadsFilled};
-ghost use Rattle.grammar.specs.Grammar.{Stuck, Lines, feed, answer};
 
-use grammar::{read_answer, read_feed, read_filled_start, read_input_start};
+use grammar::{Sort, read_answer, read_feed, read_start};
 use parts::{Filled, Line, line_of};
 
+// No line has more bytes: a statement line can be as long.
+const LONGEST: usize = 170;
+
 // Bytes that are no line of the sort read, by the length of their longest start that begins one.
-#[derive(Clone, Copy)]
+#[derive(Clone, Copy, PartialEq, Eq, Debug)]
 pub struct Faulty {
     pub start: u32,
 }
 
-// The fault in a line where so many bytes were left.
-pub(crate) fn fault(line: &[u8], left: usize) -> Faulty
-    requires { (left ≤ length line.now) × (length line.now - left ≤ 170) }
-    ensures { result.start ≡ length line.now - left }
-{
-    Faulty {
-        start: (line.len() - left) as u32,
+impl Faulty {
+    // The fault in a line where so many bytes were left.
+    pub fn of(line: &[u8], left: usize) -> Faulty
+        ensures { result.start ≡ min (length line.now - left) 170 }
+    {
+        Faulty {
+            start: line.len().saturating_sub(left).min(LONGEST) as u32,
+        }
     }
 }
 
-// The kind of an input line, with its fields at the front of `out`.
-fn scan_input_fields<'a>(line: &'a [u8], out: &mut [&'a [u8]; 7]) -> Result<u8, usize>
-    ensures { MatchResult result (λ k. (l : Line) → Made k out.new l → ReadsInput line.now l) (λ left. Stuck (Lines kinds feed) line.now left) }
+// The kind and the fields at the start of a line of a sort, and what follows them.
+fn line_start<'a>(line: &'a [u8], sort: Sort) -> Result<(Line<'a>, &'a [u8]), usize>
+    ensures { MatchResult result (λ p. StartRead (kinds_of sort) line.now (kind_of p.0) (parts_of p.0) p.1.now) (λ left. (t : List Piece) → Delim t → Stuck (Lines (kinds_of sort) t) line.now left) }
 {
-    let head = read_input_start(line, out)?;
-    read_feed(head.rest)?;
-    Ok(head.kind)
+    let mut out: [&'a [u8]; 7] = [&[]; 7];
+    let head = read_start(line, sort, &mut out)?;
+    Ok((line_of(head.kind, &out), head.rest))
 }
 
 fn scan_input<'a>(line: &'a [u8]) -> Result<Line<'a>, usize>
     ensures { MatchResult result (λ l. ReadsInput line.now l) (λ left. Stuck (Lines kinds feed) line.now left) }
 {
-    let mut out: [&'a [u8]; 7] = [&[]; 7];
-    let kind = scan_input_fields(line, &mut out)?;
-    Ok(line_of(kind, &out))
+    let (read, end) = line_start(line, Sort::Input)?;
+    read_feed(end)?;
+    Ok(read)
 }
 
 // Reads an input line.
 pub fn read_input<'a>(line: &'a [u8]) -> Result<Line<'a>, Faulty>
     ensures { MatchResult result (λ l. ReadsInput line.now l) (λ f. LongestStart IsInput line.now f.start × (f.start ≤ 66)) }
 {
-    match scan_input(line) {
-        Ok(l) => Ok(l),
-        Err(left) => Err(fault(line, left)),
-    }
+    scan_input(line).map_err(|left| Faulty::of(line, left))
 }
 
 fn scan_filled<'a>(line: &'a [u8]) -> Result<Filled<'a>, usize>
     ensures { MatchResult result (λ f. ReadsFilled line.now f) (λ left. Stuck (Lines filled_kinds answer) line.now left) }
 {
-    let mut out: [&'a [u8]; 7] = [&[]; 7];
-    let head = read_filled_start(line, &mut out)?;
-    let (reply, result) = read_answer(head.rest)?;
+    let (line, end) = line_start(line, Sort::Filled)?;
+    let (reply, result) = read_answer(end)?;
     Ok(Filled {
-        line: line_of(head.kind, &out),
+        line,
         reply,
         result,
     })
@@ -70,8 +69,5 @@ fn scan_filled<'a>(line: &'a [u8]) -> Result<Filled<'a>, usize>
 pub fn read_filled<'a>(line: &'a [u8]) -> Result<Filled<'a>, Faulty>
     ensures { MatchResult result (λ l. ReadsFilled line.now l) (λ f. LongestStart IsFilled line.now f.start × (f.start ≤ 86)) }
 {
-    match scan_filled(line) {
-        Ok(f) => Ok(f),
-        Err(left) => Err(fault(line, left)),
-    }
+    scan_filled(line).map_err(|left| Faulty::of(line, left))
 }

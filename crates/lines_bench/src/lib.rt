@@ -1,7 +1,7 @@
 // What the benchmark of `lines` calls from outside.
 #![tactic(auto)]
 
-use lines::{Text, fill, fill_faulty, read_input};
+use lines::{Answer, Text, fill, fill_faulty, read_input};
 
 // A sum over the bytes that depends on their places.
 fn checksum(bytes: &[u8]) -> u64 {
@@ -21,7 +21,14 @@ const LARGEST: u32 = 99_999_999;
 fn is_answered(text: &mut Text, line: &[u8], res: u32) -> bool {
     match read_input(line) {
         Ok(_read) => {
-            fill(text, line, 0, res);
+            fill(
+                text,
+                line,
+                Answer {
+                    reply: 0,
+                    result: res,
+                },
+            );
             res <= LARGEST
         }
         Err(fault) => {

@@ -1,6 +1,6 @@
 // Lines read and written.
 use lines::{
-    Line, Row, Text, fill, fill_faulty, find, number, read_filled, read_input, write_faulty,
+    Answer, Line, Row, Text, fill, fill_faulty, find, number, read_filled, read_input, write_faulty,
     write_filled, write_input_numbers, write_numbers,
 };
 use statements::{Sort, StatementLine, read_statement, rewrite, write_statement};
@@ -39,6 +39,10 @@ const FILLED: [&[u8]; 6] = [
     b"99 : 2 11\n",
     b"13 99999999 99999999 99999999 99999999 99999999 99999999 99999999 : 99999999 99999999\n",
 ];
+
+fn answer(reply: u32, result: u32) -> Answer {
+    Answer { reply, result }
+}
 
 #[test]
 fn input_again(rt: HostRuntime) -> Result<(), Fail> {
@@ -84,7 +88,7 @@ fn trade(rt: HostRuntime) -> Result<(), Fail> {
     assert_eq!(rt; number(price), Some(1200));
     let numbers = line.numbers().ok_or("no numbers")?;
     assert!(rt; numbers.as_slice() == [1, 2, 3, 4, 5, 6, 1200].as_slice());
-    let text = write_filled(&line, 0, 9).ok_or("no text")?;
+    let text = write_filled(&line, answer(0, 9)).ok_or("no text")?;
     assert!(rt; text.as_bytes() == b"13 1 2 3 4 5 6 1200 : 0 9\n".as_slice());
     Ok(())
 }
@@ -103,14 +107,14 @@ fn filled(rt: HostRuntime) -> Result<(), Fail> {
 #[test]
 fn no_such_line(rt: HostRuntime) {
     let line = Line::FixingPrice { price: b"05" };
-    assert!(rt; write_filled(&line, 0, 0).is_none());
+    assert!(rt; write_filled(&line, answer(0, 0)).is_none());
     assert!(rt; line.numbers().is_none());
-    assert!(rt; write_filled(&Line::Cut, 100_000_000, 0).is_none());
-    assert!(rt; write_filled(&Line::Cut, 0, 100_000_000).is_none());
+    assert!(rt; write_filled(&Line::Cut, answer(100_000_000, 0)).is_none());
+    assert!(rt; write_filled(&Line::Cut, answer(0, 100_000_000)).is_none());
     assert!(rt; write_faulty(100_000_000).is_none());
-    assert!(rt; write_numbers(14, &[1], 0, 0).is_none());
-    assert!(rt; write_numbers(24, &[], 0, 0).is_none());
-    assert!(rt; write_numbers(24, &[100_000_000], 0, 0).is_none());
+    assert!(rt; write_numbers(14, &[1], answer(0, 0)).is_none());
+    assert!(rt; write_numbers(24, &[], answer(0, 0)).is_none());
+    assert!(rt; write_numbers(24, &[100_000_000], answer(0, 0)).is_none());
     assert!(rt; write_input_numbers(99, &[]).is_none());
 }
 
@@ -118,7 +122,7 @@ fn no_such_line(rt: HostRuntime) {
 fn from_numbers(rt: HostRuntime) -> Result<(), Fail> {
     let faulty = write_faulty(66).ok_or("no text")?;
     assert!(rt; faulty.as_bytes() == b"99 : 2 66\n".as_slice());
-    let filled = write_numbers(15, &[3, 99_999_999], 10, 0).ok_or("no text")?;
+    let filled = write_numbers(15, &[3, 99_999_999], answer(10, 0)).ok_or("no text")?;
     assert!(rt; filled.as_bytes() == b"15 3 99999999 : 10 0\n".as_slice());
     let input = write_input_numbers(27, &[]).ok_or("no text")?;
     assert!(rt; input.as_bytes() == b"27\n".as_slice());
@@ -131,20 +135,20 @@ fn numbers_of_a_trade(rt: HostRuntime) -> Result<(), Fail> {
         return Err(Fail::new("no line"));
     };
     let numbers = line.numbers().ok_or("no numbers")?;
-    let text = write_numbers(13, numbers.as_slice(), 0, 9).ok_or("no text")?;
+    let text = write_numbers(13, numbers.as_slice(), answer(0, 9)).ok_or("no text")?;
     assert!(rt; text.as_bytes() == b"13 1 2 3 4 5 6 1200 : 0 9\n".as_slice());
     Ok(())
 }
 
 #[test]
 fn no_such_answer(rt: HostRuntime) {
-    assert!(rt; write_numbers(28, &[], 100_000_000, 0).is_none());
-    assert!(rt; write_numbers(28, &[], 0, 100_000_000).is_none());
+    assert!(rt; write_numbers(28, &[], answer(100_000_000, 0)).is_none());
+    assert!(rt; write_numbers(28, &[], answer(0, 100_000_000)).is_none());
 }
 
 #[test]
 fn faulty_from_numbers(rt: HostRuntime) -> Result<(), Fail> {
-    let faulty = write_numbers(99, &[], 2, 66).ok_or("no text")?;
+    let faulty = write_numbers(99, &[], answer(2, 66)).ok_or("no text")?;
     assert!(rt; faulty.as_bytes() == b"99 : 2 66\n".as_slice());
     Ok(())
 }
@@ -153,15 +157,15 @@ fn faulty_from_numbers(rt: HostRuntime) -> Result<(), Fail> {
 fn filled_in_place(rt: HostRuntime) {
     let mut text = Text::new();
     assert!(rt; text.as_bytes() == b"".as_slice());
-    fill(&mut text, INPUT[21], 99_999_999, 99_999_999);
+    fill(&mut text, INPUT[21], answer(99_999_999, 99_999_999));
     assert!(rt; text.as_bytes() == FILLED[5]);
-    fill(&mut text, b"15 3 2\n", 10, 0);
+    fill(&mut text, b"15 3 2\n", answer(10, 0));
     assert!(rt; text.as_bytes() == b"15 3 2 : 10 0\n".as_slice());
     fill_faulty(&mut text, 66);
     assert!(rt; text.as_bytes() == b"99 : 2 66\n".as_slice());
-    fill(&mut text, b"", 0, 1);
+    fill(&mut text, b"", answer(0, 1));
     assert!(rt; text.as_bytes() == b" : 0 1\n".as_slice());
-    fill(&mut text, &[b'x'; 200], 0, 1);
+    fill(&mut text, &[b'x'; 200], answer(0, 1));
     assert!(rt; text.as_bytes() == [b'x'; 170].as_slice());
 }
 

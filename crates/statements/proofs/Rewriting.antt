@@ -7,7 +7,7 @@ use Rattle.lines.specs.Reads.{reply_of, result_of, ReadsInput, ReadsFilled}
 use Rattle.lines.specs.Texts.{text_of}
 use Rattle.parts.specs.Lists.{list_of, nine}
 use Rattle.statements.specs.Rewrites.{Rewrites}
-use Rattle.statements.specs.declared.again.Sort.TheVariants.{Filled}
+use Rattle.grammar.specs.declared.kinds.Sort.TheVariants.{Filled}
 use Rattle.statements.specs.declared.again.Rewritten.{Rewritten}
 use Rattle.parts.specs.declared.line.Line.{Line}
 use Rattle.parts.specs.declared.line.Filled as read

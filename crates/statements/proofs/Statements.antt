@@ -1,17 +1,17 @@
 -- Statement lines: how long they are, read and written.
-use Rattle.std.proofs.Common.{◌≡◌, ℕ, suc, ◌-◌, ◌*◌, ◌≤◌, List, [], ◌∷◌, ◌++◌, length, decimal, sym, refl, ap, ◌∙◌, subst, append-nil, arith}
+use Rattle.std.proofs.Common.{◌≡◌, ℕ, suc, ◌-◌, ◌*◌, ◌≤◌, min, List, [], ◌∷◌, ◌++◌, length, decimal, Result, Ok, MatchResult, IsErrAnd, sym, refl, ap, ◌∙◌, subst, append-nil, arith}
 use Rattle.std.specs.List.{AllByRecursion}
 use Rattle.std.proofs.lemmas.List.{length-append, take_all}
 use Rattle.grammar.specs.Kinds.{Short}
 use Rattle.lines.specs.Lines.{fields_text, StatementText, IsStatement, LongestStart}
 use Rattle.grammar.specs.Grammar.{ten_numbers, Writes, shape, feed, first, Stuck, Done}
+use Rattle.lines.specs.declared.read.Faulty.{Faulty}
 use Rattle.statements.specs.declared.statement.StatementLine.{StatementLine}
 use Rattle.statements.specs.Statements.{values_of, ReadsStatement}
-use Rattle.lines.proofs.Tops.{writes_to, writes_from, faulty}
+use Rattle.lines.proofs.Tops.{writes_to, writes_from, faulty, told}
 use Rattle.lines.specs.Texts.{cut}
 use Rattle.lines.proofs.Lengths.{len_number, start_length}
 use Rattle.lines.proofs.Made.{started, ended}
-use Rattle.parts.proofs.Front.{places, places_take}
 
 len_fields_16 : (ns : List ℕ) → AllByRecursion (Short 16) ns → length (fields_text ns) ≤ 17 * length ns
 len_fields_16 [] h = omega arith
@@ -59,6 +59,10 @@ statement_from ns w h =
 pub statement_faulty : (s : List ℕ) (left : ℕ) → Stuck (Writes ten_numbers) s left → LongestStart IsStatement s (length s - left)
 statement_faulty s left st = faulty IsStatement (Writes ten_numbers) s left _ (λ ms w h. (ms, statement_from ms w h)) (λ w l. (l.0, statement_to l.0 w l.1)) st refl
 
+-- ten numbers, or the start of the fault
+pub statement_told : (w : List ℕ) (r : Result (List ℕ) ℕ) (q : Result (List ℕ) Faulty) (G : ℕ → Faulty → Type 0) → MatchResult r (Done (Writes ten_numbers) w) (Stuck (Writes ten_numbers) w) → MatchResult r (λ ns. q ≡ Ok ns) (λ e. IsErrAnd q (G e)) → ((e : ℕ) (f : Faulty) → G e f → f.start ≡ min (length w - e) 170) → MatchResult q (Done (Writes ten_numbers) w) (λ f. LongestStart IsStatement w f.start × (f.start ≤ 170))
+statement_told w r q G h at by = told IsStatement 170 w r q (Done (Writes ten_numbers) w) (Stuck (Writes ten_numbers) w) G h at (statement_faulty w) (statement_start w) (omega arith) by
+
 pub statement_read : (w ns : List ℕ) (s : StatementLine) → Done (Writes ten_numbers) w ns → values_of s ≡ ns → ReadsStatement w s
 statement_read w ns s h e = record {
   is = subst (λ l. StatementText l w) (sym e) (statement_from ns w h.is);
@@ -70,6 +74,3 @@ statement_made n ns all new t u v same ten first short e f g h =
     let l = statement_length (n ∷ ns) (decimal n ++ (fields_text ns ++ (10 ∷ []))) (record { ten = ap length same ∙ ten; short = (first, short); is = refl }) in
     subst (λ xs. StatementText xs v) same
     (record { ten = ap length same ∙ ten; short = (first, short); is = ended n u v (fields_text ns) (10 ∷ []) l (started n new t u (fields_text ns) e f g) h })
-
-pub all_nine : (n : ℕ) (xs : List ℕ) → length xs ≡ 9 → n ∷ places 9 0 xs 0 ≡ n ∷ xs
-all_nine n xs e = ap (λ l. n ∷ l) (places_take 9 0 xs 0 (omega arith) ∙ take_all 9 xs (omega arith))

@@ -3,8 +3,8 @@ use Rattle.std.specs.Prelude.{◌≡◌, ℕ, List, [], ◌∷◌, ◌++◌}
 use Rattle.lines.specs.Lines.{InputLine, FilledLine, IsInput, IsFilled}
 use Rattle.lines.specs.Texts.{text_of}
 use Rattle.parts.specs.Lists.{list_of}
-use Rattle.statements.specs.declared.again.Sort.{Sort}
-use Rattle.statements.specs.declared.again.Sort.TheVariants.{Input, Filled}
+use Rattle.grammar.specs.declared.kinds.Sort.{Sort}
+use Rattle.grammar.specs.declared.kinds.Sort.TheVariants.{Input, Filled}
 use Rattle.statements.specs.declared.again.Rewritten.{Rewritten}
 
 -- w is the writing of kind k with the numbers ns; those of a filled line end with reply and result

@@ -3,16 +3,9 @@ ghost use Rattle.std.specs.Prelude.{◌≤◌, MatchResult};
 ghost use Rattle.lines.specs.Lines.{IsInput, IsFilled, LongestStart};
 ghost use Rattle.statements.specs.Rewrites.{IsLine, longest_line, Rewrites};
 
-use grammar::number;
-use lines::{Faulty, Text, read_filled, read_input, write_input_numbers, write_numbers};
+use grammar::{Sort, number};
+use lines::{Answer, Faulty, Text, read_filled, read_input, write_input_numbers, write_numbers};
 use parts::Numbers;
-
-// The sorts of archive lines.
-#[derive(Clone, Copy)]
-pub enum Sort {
-    Input,
-    Filled,
-}
 
 // What a line was read as, and its text written from that. The numbers of a filled line end with reply and result.
 #[derive(Clone, Copy)]
@@ -40,6 +33,7 @@ fn rewrite_input(line: &[u8]) -> Result<Rewritten, Faulty>
     })
 }
 
+// Kept: a filled line has reply and result beside its fields, so little is left that both could share.
 fn rewrite_filled(line: &[u8]) -> Result<Rewritten, Faulty>
     ensures { MatchResult result (λ w. Rewrites Sort.Filled line.now w) (λ f. LongestStart IsFilled line.now f.start × (f.start ≤ 86)) }
 {
@@ -52,7 +46,8 @@ fn rewrite_filled(line: &[u8]) -> Result<Rewritten, Faulty>
     ) else {
         unreachable()
     };
-    let Some(text) = write_numbers(kind, fields.as_slice(), reply, result) else {
+    let answer = Answer { reply, result };
+    let Some(text) = write_numbers(kind, fields.as_slice(), answer) else {
         unreachable()
     };
     let mut numbers = fields;

@@ -4,5 +4,6 @@
 mod again;
 mod statement;
 
-pub use again::{Rewritten, Sort, rewrite};
+pub use again::{Rewritten, rewrite};
+pub use grammar::Sort;
 pub use statement::{StatementLine, read_statement, write_statement};

@@ -1,14 +1,13 @@
-use Rattle.std.proofs.Common.{sym, subst, arith}
-use Rattle.lines.specs.Lines.{IsFilled, LongestStart}
-use Rattle.grammar.proofs.Steps.{stuck_fits}
-use Rattle.lines.proofs.Tops.{filled_faulty}
+use Rattle.std.proofs.Common.{arith, rules}
+use Rattle.grammar.specs.Kinds.{filled_kinds}
+use Rattle.grammar.specs.Grammar.{Stuck, Lines, answer}
+use Rattle.lines.specs.Lines.{IsFilled}
+use Rattle.lines.specs.Reads.{ReadsFilled}
+use Rattle.lines.proofs.Tops.{told, filled_faulty}
 use Rattle.lines.proofs.Lengths.{filled_start}
 use Rattle.lines.proofs.read.read_filled.Goals as goal
 
-pub fault-requires : goal.fault-requires
-fault-requires c = (stuck_fits _ _ _ c.in-Err.ensures, omega (arith, filled_start _ _ (filled_faulty _ _ c.in-Err.ensures)))
-
-pub returns-in-Err : goal.returns-in-Err
-returns-in-Err c =
-    let f = subst (LongestStart IsFilled c.args.line.now) (sym c.fault.ensures) (filled_faulty _ _ c.in-Err.ensures) in
-    (f, filled_start _ _ f)
+pub returns : goal.returns
+returns c =
+    let w = c.args.line.now in
+    told IsFilled 86 w c.scan_filled.result c.map_err.result (ReadsFilled w) (Stuck (Lines filled_kinds answer) w) _ c.scan_filled.ensures c.map_err.ensures.cases (filled_faulty w) (filled_start w) (omega arith) (λ e f g. search rules)

@@ -1,14 +1,13 @@
-use Rattle.std.proofs.Common.{sym, subst, arith}
-use Rattle.lines.specs.Lines.{IsInput, LongestStart}
-use Rattle.grammar.proofs.Steps.{stuck_fits}
-use Rattle.lines.proofs.Tops.{input_faulty}
+use Rattle.std.proofs.Common.{arith, rules}
+use Rattle.grammar.specs.Kinds.{kinds}
+use Rattle.grammar.specs.Grammar.{Stuck, Lines, feed}
+use Rattle.lines.specs.Lines.{IsInput}
+use Rattle.lines.specs.Reads.{ReadsInput}
+use Rattle.lines.proofs.Tops.{told, input_faulty}
 use Rattle.lines.proofs.Lengths.{input_start}
 use Rattle.lines.proofs.read.read_input.Goals as goal
 
-pub fault-requires : goal.fault-requires
-fault-requires c = (stuck_fits _ _ _ c.in-Err.ensures, omega (arith, input_start _ _ (input_faulty _ _ c.in-Err.ensures)))
-
-pub returns-in-Err : goal.returns-in-Err
-returns-in-Err c =
-    let f = subst (LongestStart IsInput c.args.line.now) (sym c.fault.ensures) (input_faulty _ _ c.in-Err.ensures) in
-    (f, input_start _ _ f)
+pub returns : goal.returns
+returns c =
+    let w = c.args.line.now in
+    told IsInput 66 w c.scan_input.result c.map_err.result (ReadsInput w) (Stuck (Lines kinds feed) w) _ c.scan_input.ensures c.map_err.ensures.cases (input_faulty w) (input_start w) (omega arith) (λ e f g. search rules)

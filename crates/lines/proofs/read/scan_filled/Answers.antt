@@ -1,22 +1,19 @@
 use Rattle.std.proofs.lemmas.Result.{err_from_is_err_and}
-use Rattle.grammar.specs.Kinds.{filled_kinds}
 use Rattle.grammar.specs.Grammar.{answer}
 use Rattle.grammar.proofs.Steps.{stuck_after, answer_delim}
-use Rattle.lines.proofs.Tops.{filled_read, line_made}
+use Rattle.lines.proofs.Tops.{filled_read}
 use Rattle.lines.proofs.read.scan_filled.Goals as goal
 
-pub returns-in_err-head : goal.returns-in_err-head
-returns-in_err-head c =
+pub returns-in_err-line : goal.returns-in_err-line
+returns-in_err-line c =
     let p = err_from_is_err_and c.from_residual.result c.from_residual.ensures.1 in
-    rw (p.1, p.2) (c.in_err-head.ensures answer answer_delim)
+    rw (p.1, p.2) (c.in_err-line.ensures answer answer_delim)
 
 pub returns-in_err-reply : goal.returns-in_err-reply
 returns-in_err-reply c =
     let p = err_from_is_err_and c.from_residual-in_err-reply.result c.from_residual-in_err-reply.ensures.1 in
-    let start = c.in_ok-head.ensures in
+    let start = c.in_ok-line.ensures in
     rw (p.1, p.2, start.split) (stuck_after _ _ _ _ _ _ (start.reached answer answer_delim) c.in_err-reply.ensures)
 
 pub returns : goal.returns
-returns c =
-    let start = c.in_ok-head.ensures in
-    filled_read _ _ _ _ _ start c.in_ok-reply.ensures (line_made filled_kinds _ _ _ _ _ _ (λ n e. e) start c.line_of.ensures)
+returns c = filled_read _ _ _ c.in_ok-line.ensures c.in_ok-reply.ensures

@@ -1,10 +1,19 @@
 use Rattle.std.proofs.lemmas.Result.{err_from_is_err_and}
+use Rattle.grammar.specs.Grammar.{feed}
+use Rattle.grammar.proofs.Steps.{stuck_after, not_digit_10}
+use Rattle.lines.proofs.Tops.{input_read}
 use Rattle.lines.proofs.read.scan_input.Goals as goal
 
-pub returns-in_err-kind : goal.returns-in_err-kind
-returns-in_err-kind c =
+pub returns-in_err-read : goal.returns-in_err-read
+returns-in_err-read c =
     let p = err_from_is_err_and c.from_residual.result c.from_residual.ensures.1 in
-    rw (p.1, p.2) c.in_err-kind.ensures
+    rw (p.1, p.2) (c.in_err-read.ensures feed not_digit_10)
+
+pub returns-in_err-read_feed : goal.returns-in_err-read_feed
+returns-in_err-read_feed c =
+    let p = err_from_is_err_and c.from_residual-in_err-read_feed.result c.from_residual-in_err-read_feed.ensures.1 in
+    let start = c.in_ok-read.ensures in
+    rw (p.1, p.2, start.split) (stuck_after _ _ _ _ _ _ (start.reached feed not_digit_10) c.in_err-read_feed.ensures)
 
 pub returns : goal.returns
-returns c = c.in_ok-kind.ensures c.line_of.result c.line_of.ensures
+returns c = input_read _ _ _ c.in_ok-read.ensures c.in_ok-read_feed.ensures

@@ -6,13 +6,15 @@ use Rattle.lines.proofs.write.push_answer.Goals as goal
 
 pub returns : goal.returns
 returns c =
-    let a = decimal c.args.reply in
-    let b = decimal c.args.res in
+    let a = decimal c.args.answer.reply in
+    let b = decimal c.args.answer.result in
     let old = text_of c.args.text.now in
     let mark = 32 ∷ 58 ∷ 32 ∷ [] in
-    let reply = cut_more 170 _ _ old mark a c.push_all.ensures c.push_number.ensures in
+    let first = rw c.from.ensures at c.push_number.ensures in
+    let second = rw c.from-2.ensures at c.push_number-2.ensures in
+    let reply = cut_more 170 _ _ old mark a c.push_all.ensures first in
     let blank = cut_more 170 _ _ old (mark ++ a) (32 ∷ []) reply c.push.ensures in
-    let result = cut_more 170 _ _ old ((mark ++ a) ++ (32 ∷ [])) b blank c.push_number-2.ensures in
+    let result = cut_more 170 _ _ old ((mark ++ a) ++ (32 ∷ [])) b blank second in
     let all = cut_more 170 _ _ old (((mark ++ a) ++ (32 ∷ [])) ++ b) (10 ∷ []) result c.push-2.ensures in
-    let same : (((mark ++ a) ++ (32 ∷ [])) ++ b) ++ (10 ∷ []) ≡ answer_text c.args.reply c.args.res = simp append_assoc in
+    let same : (((mark ++ a) ++ (32 ∷ [])) ++ b) ++ (10 ∷ []) ≡ answer_text c.args.answer.reply c.args.answer.result = simp append_assoc in
     all ∙ ap (λ t. cut (old ++ t)) same

@@ -1,7 +1,6 @@
-use Rattle.std.proofs.Common.{sym, refl, ap, ◌∙◌}
-use Rattle.grammar.specs.Kinds.{arity}
+use Rattle.std.proofs.Common.{refl}
 use Rattle.lines.proofs.Made.{input_made}
 use Rattle.lines.proofs.write.write_input_numbers.Goals as goal
 
 pub returns : goal.returns
-returns c = input_made c.args.kind _ _ _ (ap (λ rows. arity rows c.args.kind) (sym c.input_kinds.ensures) ∙ c.if-not-is_known.ensures.0 refl) (c.if-not-are_short.ensures.0 refl) c.start_text-text.ensures c.push.ensures
+returns c = input_made c.args.kind _ _ _ (c.if-not-is_known.ensures.0 refl) (c.if-not-all_below.ensures.0 refl) c.start_text-text.ensures c.push.ensures

@@ -1,7 +1,6 @@
-use Rattle.std.proofs.Common.{sym, refl, ap, ◌∙◌}
-use Rattle.grammar.specs.Kinds.{arity}
+use Rattle.std.proofs.Common.{refl}
 use Rattle.lines.proofs.Made.{filled_made}
 use Rattle.lines.proofs.write.write_numbers.Goals as goal
 
 pub returns : goal.returns
-returns c = filled_made c.args.kind _ _ _ _ _ (ap (λ rows. arity rows c.args.kind) (sym c.all_kinds.ensures) ∙ c.if-not-is_known.ensures.0 refl) (c.if-not-are_short.ensures.0 refl) (c.if-not-is_answer.ensures.0 refl) c.start_text-text.ensures c.push_answer.ensures
+returns c = filled_made c.args.kind _ _ _ _ _ (c.if-not-is_known.ensures.0 refl) (c.if-not-all_below.ensures.0 refl) (c.if-not-is_short.ensures.0 refl) c.start_text-text.ensures c.push_answer.ensures

@@ -1,17 +1,15 @@
-use Rattle.std.proofs.Common.{sym, subst, arith}
-use Rattle.lines.specs.Lines.{IsStatement, LongestStart}
-use Rattle.grammar.proofs.Steps.{stuck_fits}
-use Rattle.statements.proofs.Statements.{statement_faulty, statement_read}
-use Rattle.statements.proofs.Statements.{statement_start}
+use Rattle.std.proofs.Common.{rules}
+use Rattle.std.proofs.lemmas.Result.{err_from_is_err_and, MatchResult-at_ok, MatchResult-at_err}
+use Rattle.statements.proofs.Statements.{statement_told, statement_read}
 use Rattle.statements.proofs.statement.read_statement.Goals as goal
 
-pub fault-requires : goal.fault-requires
-fault-requires c = (stuck_fits _ _ _ c.in-Err.ensures, omega (arith, statement_start _ _ (statement_faulty _ _ c.in-Err.ensures)))
+pub returns : goal.returns
+returns c =
+    let told = statement_told c.args.line.now c.read_ten.result c.map_err.result _ c.read_ten.ensures c.map_err.ensures.cases (λ e f g. search rules) in
+    statement_read _ _ _ (MatchResult-at_ok _ _ _ c.in_ok-numbers.was told) c.from.ensures
 
-pub returns-in-Err : goal.returns-in-Err
-returns-in-Err c =
-    let f = subst (LongestStart IsStatement c.args.line.now) (sym c.fault.ensures) (statement_faulty _ _ c.in-Err.ensures) in
-    (f, statement_start _ _ f)
-
-pub returns-in-Ok : goal.returns-in-Ok
-returns-in-Ok c = statement_read _ _ _ c.in-Ok.ensures c.of.ensures
+pub returns-in_err-numbers : goal.returns-in_err-numbers
+returns-in_err-numbers c =
+    let told = statement_told c.args.line.now c.read_ten.result c.map_err.result _ c.read_ten.ensures c.map_err.ensures.cases (λ e f g. search rules) in
+    let p = err_from_is_err_and c.from_residual.result c.from_residual.ensures.1 in
+    rw (p.1, p.2) (MatchResult-at_err _ _ _ c.in_err-numbers.was told)

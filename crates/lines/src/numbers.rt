@@ -1,0 +1,47 @@
+// The numbers of a line, of either width.
+ghost use Rattle.std.specs.Prelude.{◌≡◌, ℕ, ◌<◌, ◌∷◌, ◌++◌, decimal, Decides};
+ghost use Rattle.std.specs.List.{flat_map, AllByRecursion};
+ghost use Rattle.lines.specs.Texts.{text_of, cut};
+
+use super::text::Text;
+
+// A number of an archive line, or of a statement line.
+pub trait Number: Copy {
+    ghost value: { Self → ℕ };
+
+    fn value(self) -> u64
+        ensures { result ≡ value self };
+}
+
+impl Number for u32 {
+    ghost value = { λ n. n };
+
+    fn value(self) -> u64 {
+        u64::from(self)
+    }
+}
+
+impl Number for u64 {
+    ghost value = { λ n. n };
+
+    fn value(self) -> u64 {
+        self
+    }
+}
+
+// Whether all numbers are below a limit.
+pub fn all_below<N: Number>(numbers: &[N], limit: u64) -> bool
+    ensures { Decides result (AllByRecursion (λ n. N.value n < limit) numbers.now) }
+{
+    numbers.iter().all(|n| n.value() < limit)
+}
+
+// Appends each number after a blank.
+pub fn push_numbers<N: Number>(text: &mut Text, numbers: &[N])
+    ensures { text_of text.new ≡ cut (text_of text.old ++ flat_map (λ n. 32 ∷ decimal (N.value n)) numbers.now) }
+{
+    for n in numbers {
+        text.push(b' ');
+        text.push_number(n.value());
+    }
+}

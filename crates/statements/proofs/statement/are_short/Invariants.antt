@@ -1,7 +1,0 @@
-use Rattle.std.proofs.Common.{take}
-use Rattle.std.specs.List.{AllByRecursion}
-use Rattle.grammar.specs.Kinds.{Short}
-use Rattle.statements.proofs.statement.are_short.Given as goal
-
-abbrev pub invariant-loop-n : goal.invariant-loop-n
-invariant-loop-n l = AllByRecursion (Short 16) (take l.n-index l.values)
