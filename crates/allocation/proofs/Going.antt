@@ -1,60 +1,59 @@
 -- How far the draws have come, by what is left to do.
-use Rattle.std.proofs.Common.{◌≡◌, ℕ, suc, ◌+◌, ◌-◌, ◌<◌, ◌≤◌, min, List, [], length, get_or, sum, sym, refl, ap, ◌∙◌, ⊎_elim, arith}
-use Rattle.std.proofs.lemmas.List.{ext_get_or}
+use Rattle.std.proofs.Common.{◌≡◌, ℕ, suc, ◌+◌, ◌-◌, ◌<◌, ◌≤◌, min, List, [], length, get_or, replicate, sum, sym, refl, ap, ◌∙◌, ⊎_elim, arith}
+use Rattle.std.proofs.lemmas.List.{ext_get_or, get_or-replicate, length-replicate}
 use Rattle.std.proofs.lemmas.List.FromFn.{fill_by_all}
 use Rattle.std.proofs.lemmas.Bool.{cases_lt}
 use Rattle.draws.specs.Meaning.{Meaning, behind, behind_all}
-use Rattle.allocation.specs.Stretch.{share, less}
+use Rattle.allocation.specs.Stretch.{share, less, unassigned}
 use Rattle.allocation.specs.Assigned.{draws_needed, bounds, assigned_to, assigned_by}
-use Rattle.allocation.proofs.Places.{unassigned, length_less, getd_less, length_unassigned}
+use Rattle.allocation.proofs.Places.{length_less, getd_less, length_unassigned}
 use Rattle.allocation.proofs.Totals.{share_sum, share_le, sum_less}
 use Rattle.allocation.proofs.Needed.{needed_none, needed_more}
 
-pub record Going (first m : Meaning) (shorts : List ℕ) (exercised block : ℕ) (assigned : List ℕ) (remaining left used : ℕ) : Type 0 where
+pub record Going (first m : Meaning) (shorts : List ℕ) (exercised block : ℕ) (assigned : List ℕ) (remaining left : ℕ) : Type 0 where
   pub size : length assigned ≡ length shorts
   pub covered : (i : ℕ) → i < length shorts → get_or assigned i 0 ≤ get_or shorts i 0
   pub remains : remaining ≡ sum (unassigned shorts assigned)
   pub enough : left ≤ remaining
   pub few : remaining ≤ 100_000
   pub supplied : draws_needed left block ≤ m.supply
-  pub count : used + draws_needed left block ≡ draws_needed exercised block
-  pub slow : used + left ≤ exercised
   pub rest : (i : ℕ) → i < length shorts → get_or assigned i 0 + assigned_to (draws_needed left block) m block left (unassigned shorts assigned) i ≡ assigned_to (draws_needed exercised block) first block exercised shorts i
   pub drawn : behind_all (bounds (draws_needed left block) remaining block) m ≡ behind_all (bounds (draws_needed exercised block) (sum shorts) block) first
 
 module _ (first : Meaning) (shorts : List ℕ) (exercised block : ℕ) (positive : 0 < block) where
-  all_open : (assigned : List ℕ) → length assigned ≡ length shorts → ((i : ℕ) → i < length assigned → get_or assigned i 0 ≡ 0) → unassigned shorts assigned ≡ shorts
-  all_open assigned size none =
-      ext_get_or 0 _ _ (length_unassigned shorts assigned) (λ i h.
-      let l : i < length shorts = omega (arith, length_unassigned shorts assigned) in
-      omega (arith, getd_less shorts (λ i. get_or assigned i 0) i l, none i (omega arith)))
+  abbrev zeros : List ℕ
+  zeros = replicate (length shorts) 0
 
-  pub going_none : (assigned : List ℕ) → length assigned ≡ length shorts → ((i : ℕ) → i < length assigned → get_or assigned i 0 ≡ 0) → sum shorts ≤ 100_000 → exercised ≤ sum shorts → draws_needed exercised block ≤ first.supply → Going first first shorts exercised block assigned (sum shorts) exercised 0
-  going_none assigned size none few enough supplied =
-      let o = all_open assigned size none in
-      record {
-        size = size;
-        covered = λ i h. omega (arith, none i (omega arith));
-        remains = ap sum (sym o);
-        enough = enough;
-        few = few;
-        supplied = supplied;
-        count = omega arith;
-        slow = omega arith;
-        rest = λ i h. rw o (omega (arith, none i (omega arith)));
-        drawn = refl;
-      }
+  zero : (i : ℕ) → i < length shorts → get_or zeros i 0 ≡ 0
+  zero i h = get_or-replicate (length shorts) i _ _ h
 
-  pub going_all : (m : Meaning) (assigned : List ℕ) (remaining used : ℕ) → Going first m shorts exercised block assigned remaining 0 used → (used ≡ draws_needed exercised block) × (assigned ≡ assigned_by first block exercised shorts) × (m ≡ behind_all (bounds (draws_needed exercised block) (sum shorts) block) first)
-  going_all m assigned remaining used w =
+  all_open : unassigned shorts zeros ≡ shorts
+  all_open =
+      ext_get_or 0 _ _ (length_unassigned shorts zeros) (λ i h.
+      let l : i < length shorts = omega (arith, length_unassigned shorts zeros) in
+      omega (arith, getd_less shorts (λ i. get_or zeros i 0) i l, zero i l))
+
+  pub going_none : sum shorts ≤ 100_000 → exercised ≤ sum shorts → draws_needed exercised block ≤ first.supply → Going first first shorts exercised block zeros (sum shorts) exercised
+  going_none few enough supplied = record {
+    size = length-replicate (length shorts) 0;
+    covered = λ i h. omega (arith, zero i h);
+    remains = ap sum (sym all_open);
+    enough = enough;
+    few = few;
+    supplied = supplied;
+    rest = λ i h. rw all_open (omega (arith, zero i h));
+    drawn = refl;
+  }
+
+  pub going_all : (m : Meaning) (assigned : List ℕ) (remaining : ℕ) → Going first m shorts exercised block assigned remaining 0 → (assigned ≡ assigned_by first block exercised shorts) × (m ≡ behind_all (bounds (draws_needed exercised block) (sum shorts) block) first)
+  going_all m assigned remaining w =
       let z = needed_none block positive in (
-        omega (arith, w.count, z),
         fill_by_all (assigned_to (draws_needed exercised block) first block exercised shorts) assigned (length shorts) 0 w.size (λ i h. omega (arith, rw z at (w.rest i h))),
         rw z at w.drawn,
       )
 
   -- one draw more
-  module _ (m : Meaning) (assigned : List ℕ) (remaining left used : ℕ) (w : Going first m shorts exercised block assigned remaining left used) (some : 0 < left) where
+  module _ (m : Meaning) (assigned : List ℕ) (remaining left : ℕ) (w : Going first m shorts exercised block assigned remaining left) (some : 0 < left) where
     abbrev R : List ℕ
     R = unassigned shorts assigned
 
@@ -108,7 +107,7 @@ module _ (first : Meaning) (shorts : List ℕ) (exercised block : ℕ) (positive
       total_left =
           omega (arith, ap sum left_is, sum_less R (share R start count) small, share_sum R start count within_r once, w.remains)
 
-      pub going_more : Going first (behind (sum R) m) shorts exercised block assigned' (remaining - count) (left - count) (used + 1)
+      pub going_more : Going first (behind (sum R) m) shorts exercised block assigned' (remaining - count) (left - count)
       going_more = record {
         size = size' ∙ w.size;
         covered = λ i h.
@@ -118,8 +117,6 @@ module _ (first : Meaning) (shorts : List ℕ) (exercised block : ℕ) (positive
         enough = omega (arith, w.enough);
         few = omega (arith, w.few);
         supplied = omega (arith, w.supplied, q_is);
-        count = omega (arith, w.count, q_is);
-        slow = omega (arith, w.slow);
         rest = λ i h.
             let r = rw q_is at (w.rest i h) in
             rw left_is (omega (arith, r, got i h));

@@ -2,7 +2,7 @@ pub mod Places
 pub mod Parts
 pub mod Shares
 pub mod Walk
-pub mod Stops
+pub mod Rounds
 pub mod Totals
 pub mod Needed
 pub mod Going

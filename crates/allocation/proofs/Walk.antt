@@ -2,10 +2,10 @@
 use Rattle.std.proofs.Common.{◌≡◌, ℕ, ◌+◌, ◌-◌, ◌<◌, ◌≤◌, min, max, ◌≢◌, ◌⊎◌, List, length, get_or, set, sum, sym, ◌∙◌, subst, inl, inr, ⊎_elim, arith}
 use Rattle.std.proofs.lemmas.List.{get_or-set_same, get_or-set_other, length-set}
 use Rattle.std.proofs.lemmas.Bool.{cases_order, cases_eq}
-use Rattle.allocation.specs.Stretch.{ahead, share}
+use Rattle.allocation.specs.Stretch.{ahead, unassigned, HasStretch}
 use Rattle.allocation.proofs.Parts.{part, Stands, part_le, skips, gives, needs_less, takes, apart}
-use Rattle.allocation.proofs.Shares.{share_up_to, share_is}
-use Rattle.allocation.proofs.Places.{unassigned, length_unassigned, ahead_more, ahead_le, ahead_before, length_less, getd_less}
+use Rattle.allocation.proofs.Shares.{share_up_to}
+use Rattle.allocation.proofs.Places.{ahead_more, ahead_le, ahead_before, length_less, getd_less}
 
 -- skip contracts are still to be passed and need still to be taken, and the accounts have got what the window gives up to P
 pub record Walked (shorts old : List ℕ) (start count P : ℕ) (assigned : List ℕ) (skip need : ℕ) : Type 0 where
@@ -30,7 +30,16 @@ module _ (shorts old : List ℕ) (start count : ℕ) where
     got = λ i h. omega (arith, none (ahead R i) (get_or R i 0) (sum R));
   }
 
-  module _ (within : start < sum R) (enough : count ≤ sum R) (covered : (i : ℕ) → i < length shorts → get_or old i 0 ≤ get_or shorts i 0) where
+  module _ (has : HasStretch shorts old start count) where
+    within : start < sum R
+    within = has.within
+
+    enough : count ≤ sum R
+    enough = has.enough
+
+    covered : (i : ℕ) → i < length shorts → get_or old i 0 ≤ get_or shorts i 0
+    covered = has.covered
+
     module _ (base i skip need : ℕ) (assigned : List ℕ) (at : i < length shorts) (way : (base ≡ 0) ⊎ (base ≡ sum R)) (w : Walked shorts old start count (base + ahead R i) assigned skip need) where
       at_r : i < length R
       at_r = omega (arith, length_less shorts (λ i. get_or old i 0))
@@ -98,20 +107,3 @@ module _ (shorts old : List ℕ) (start count : ℕ) where
           needed = needed_more;
           got = λ k h. ⊎_elim (λ (q : k ≡ i). subst (λ k. get_or (set assigned i (get_or assigned i 0 + taken)) k 0 ≡ get_or old k 0 + share_up_to R start (min e (base + ahead R (i + 1))) k) (sym q) here) (λ q. other k h q) (cases_eq k i);
         }
-
--- what one draw asks
-pub record Ready (shorts old : List ℕ) (start count : ℕ) : Type 0 where
-  pub within : start < sum (unassigned shorts old)
-  pub enough : count ≤ sum (unassigned shorts old)
-  pub covered : (i : ℕ) → i < length shorts → get_or old i 0 ≤ get_or shorts i 0
-
--- the walk is over, at the end of the window or behind it
-module _ (shorts old : List ℕ) (start count P skip need : ℕ) (assigned : List ℕ) (ready : Ready shorts old start count) (w : Walked shorts old start count P assigned skip need) where
-  pub walked_all : start + count ≤ P → (i : ℕ) → i < length shorts → get_or assigned i 0 ≡ get_or old i 0 + share (unassigned shorts old) start count i
-  walked_all l i h =
-      let e : min (start + count) P ≡ start + count = omega arith in
-      let k : i < length (unassigned shorts old) = omega (arith, length_unassigned shorts old) in
-      rw (share_is (unassigned shorts old) start count ready.within ready.enough i k) (rw e at (w.got i h))
-
-  pub walked_filled : 0 < count → need ≡ 0 → (i : ℕ) → i < length shorts → get_or assigned i 0 ≡ get_or old i 0 + share (unassigned shorts old) start count i
-  walked_filled some filled = walked_all (omega (arith, w.needed))

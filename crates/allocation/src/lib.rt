@@ -1,10 +1,11 @@
 // Assignment of exercised contracts to the accounts that are short, by draw.
 #![tactic(auto)]
 
-ghost use Rattle.std.specs.Prelude.{◌≡◌, ℕ, ◌+◌, ◌-◌, ◌<◌, ◌≤◌, min, [], length, if◌then◌else◌, sum, nat_lt, slice_index};
+ghost use Rattle.std.specs.Prelude.{◌≡◌, ◌<◌, ◌≤◌, [], length, sum};
 ghost use Rattle.draws.specs.Meaning.{behind, behind_all};
+ghost use Rattle.allocation.specs.Stretch.{HasStretch, TakesStretch};
 ghost use Rattle.allocation.specs.Assigned.{draws_needed, bounds, assigned_by};
-ghost use Rattle.allocation.specs.Allocation.{refusal, allocation};
+ghost use Rattle.allocation.specs.Allocation.{allocation};
 ghost use Rattle.allocation.specs.Laws.{AlwaysSettled, RestsOnAnswers, Worked, NothingExercised};
 
 use draws::Draws;
@@ -38,168 +39,113 @@ fn total(shorts: &[u32]) -> u64
     requires { length shorts.now ≤ 64 }
     ensures { result ≡ sum shorts.now }
 {
-    let mut all: u64 = 0;
-    for count in shorts {
-        all += u64::from(*count);
-    }
-    all
+    shorts.iter().map(|count| u64::from(*count)).sum()
 }
 
-// Exercised contracts over the block, rounded up.
-fn draws_for(exercised: u32, block: u32) -> u32
-    requires some { 0 < block }
-    requires few { (exercised ≤ 100_000) × (block ≤ 1_000) }
+// The draws that so many exercised contracts take: those over the block, rounded up, and none for a block of 0.
+pub fn draws_for(exercised: u32, block: u32) -> u32
     ensures { result ≡ draws_needed exercised block }
 {
-    (exercised + (block - 1)) / block
+    if block == 0 {
+        return 0;
+    }
+    exercised.div_ceil(block)
 }
 
-// Why an allocation cannot be made, if so: the first check that fails.
-fn refuse<S: Draws>(
+// What an allocation answers: the draws that it takes, or the first check that fails.
+// Kept: these are the parameters of `allocate`; a struct of them for two private functions makes each clause longer.
+fn check<S: Draws>(
     source: &S,
     shorts: &[u32],
     exercised: u32,
     block: u32,
-    places: usize,
-) -> Option<Unassigned>
-    ensures { result ≡ refusal (S.meaning source.now) shorts.now exercised block places }
+    assigned: &[u32],
+) -> Result<u32, Unassigned>
+    ensures { result ≡ (allocation (S.meaning source.now) shorts.now exercised block assigned.now).reply }
 {
-    if places != shorts.len() {
-        return Some(Unassigned::PlacesDiffer);
+    if assigned.len() != shorts.len() {
+        return Err(Unassigned::PlacesDiffer);
     }
     if shorts.len() > ACCOUNTS {
-        return Some(Unassigned::TooManyAccounts);
+        return Err(Unassigned::TooManyAccounts);
     }
     let all = total(shorts);
     if all > CONTRACTS {
-        return Some(Unassigned::TooManyShorts);
+        return Err(Unassigned::TooManyShorts);
     }
-    if block < 1 || block > BLOCK {
-        return Some(Unassigned::BlockOutOfRange);
+    if !(1..=BLOCK).contains(&block) {
+        return Err(Unassigned::BlockOutOfRange);
     }
     if u64::from(exercised) > all {
-        return Some(Unassigned::TooManyExercised);
+        return Err(Unassigned::TooManyExercised);
     }
     let draws = draws_for(exercised, block);
     if source.supply() < u64::from(draws) {
-        return Some(Unassigned::DrawsShort(draws));
+        return Err(Unassigned::DrawsShort(draws));
     }
-    None
+    Ok(draws)
 }
 
-// What the walk does at one account: the contracts that it passes by, and those that it then takes.
-#[derive(Clone, Copy)]
-struct Step {
-    passed: u32,
-    taken: u32,
-}
-
-// At an account with so many open contracts, with `skip` still to be passed by and `need` still to be taken.
-fn step_at(open_contracts: u32, skip: u32, need: u32) -> Step
-    ensures passed { result.passed ≡ min skip open_contracts }
-    ensures taken { result.taken ≡ min (open_contracts - result.passed) need }
-{
-    let passed = skip.min(open_contracts);
-    let taken = (open_contracts - passed).min(need);
-    Step { passed, taken }
-}
-
-// The account at a step of the walk: down the list of accounts, then on from its top.
-fn around(at: usize, accounts: usize) -> usize
-    ensures { result ≡ (if nat_lt at accounts then at else at - accounts) }
-{
-    if at < accounts { at } else { at - accounts }
-}
-
-// The contracts of the next draw: a block, or what is left if less.
-fn next_block(block: u32, left: u32) -> u32
-    ensures { result ≡ min block left }
-{
-    block.min(left)
-}
-
-// The starting contract, by a draw that cannot be refused; the draw is counted.
-fn draw_start<S: Draws>(source: &mut S, remaining: u32, used: &mut u32) -> u32
+// The starting contract, by a draw that cannot be refused.
+fn draw_start<S: Draws>(source: &mut S, remaining: u32) -> u32
     requires some { 0 < remaining }
     requires supplied { 0 < (S.meaning source.old).supply }
-    requires few { used.old < 100_000 }
     ensures answer { result ≡ (S.meaning source.old).answer [] remaining }
     ensures left { S.meaning source.new ≡ behind remaining (S.meaning source.old) }
-    ensures counted { used.new ≡ used.old + 1 }
 {
-    *used += 1;
-    match source.draw(remaining) {
-        Ok(start) => start,
-        Err(_) => unreachable(),
+    source.draw(remaining).unwrap()
+}
+
+// Assigns the stretch of so many open contracts from the starting contract on: down the list of accounts, and on from
+// its top.
+#[tactic(auto, using(crate::proofs::Rounds::walk_ends))]
+fn take_stretch(shorts: &[u32], start: u32, count: u32, assigned: &mut [u32])
+    requires { HasStretch shorts.now assigned.old start count }
+    ensures { TakesStretch shorts.now assigned.old assigned.new start count }
+{
+    let mut skip = start;
+    let mut need = count;
+    for _ in 0..2u8 {
+        for (i, short) in shorts.iter().enumerate() {
+            let open_contracts = short - assigned[i];
+            let passed = skip.min(open_contracts);
+            let taken = (open_contracts - passed).min(need);
+            skip -= passed;
+            assigned[i] += taken;
+            need -= taken;
+            if need == 0 {
+                return;
+            }
+        }
     }
 }
 
-fn clear(assigned: &mut [u32])
-    ensures { (i : ℕ) → i < length assigned.new → slice_index assigned.new i ≡ 0 }
-{
-    for count in assigned.iter_mut() {
-        *count = 0;
-    }
-}
-
-// Assigns the exercised contracts block by block, and answers how many draws that took.
+// Assigns the exercised contracts block by block.
 fn assign<S: Draws>(
     source: &mut S,
     shorts: &[u32],
     exercised: u32,
     block: u32,
     assigned: &mut [u32],
-) -> u32
+)
     requires places { length assigned.old ≡ length shorts.now }
     requires accounts { length shorts.now ≤ 64 }
     requires few { sum shorts.now ≤ 100_000 }
     requires positive { 1 ≤ block }
     requires enough { exercised ≤ sum shorts.now }
     requires supplied { draws_needed exercised block ≤ (S.meaning source.old).supply }
-    ensures used { result ≡ draws_needed exercised block }
     ensures shares { assigned.new ≡ assigned_by (S.meaning source.old) block exercised shorts.now }
     ensures drawn { S.meaning source.new ≡ behind_all (bounds (draws_needed exercised block) (sum shorts.now) block) (S.meaning source.old) }
 {
-    clear(assigned);
+    assigned.fill(0);
     let mut remaining = total(shorts) as u32;
     let mut left = exercised;
-    let mut used = 0;
-    'draws: while left > 0 {
-        let start = draw_start(source, remaining, &mut used);
-        let count = next_block(block, left);
+    while left > 0 {
+        let start = draw_start(source, remaining);
+        let count = block.min(left);
+        take_stretch(shorts, start, count, assigned);
         remaining -= count;
         left -= count;
-        let mut skip = start;
-        let mut need = count;
-        for at in 0..2 * shorts.len() {
-            let i = around(at, shorts.len());
-            let step = step_at(shorts[i] - assigned[i], skip, need);
-            skip -= step.passed;
-            assigned[i] += step.taken;
-            need -= step.taken;
-            if need == 0 {
-                continue 'draws;
-            }
-        }
-    }
-    used
-}
-
-// Makes the allocation, or turns it back.
-fn attempt<S: Draws>(
-    source: &mut S,
-    shorts: &[u32],
-    exercised: u32,
-    block: u32,
-    assigned: &mut [u32],
-) -> Result<u32, Unassigned>
-    ensures reply { result ≡ (allocation (S.meaning source.old) shorts.now exercised block assigned.old).reply }
-    ensures assigned { assigned.new ≡ (allocation (S.meaning source.old) shorts.now exercised block assigned.old).assigned }
-    ensures source { S.meaning source.new ≡ (allocation (S.meaning source.old) shorts.now exercised block assigned.old).source }
-{
-    match refuse(source, shorts, exercised, block, assigned.len()) {
-        Some(cause) => Err(cause),
-        None => Ok(assign(source, shorts, exercised, block, assigned)),
     }
 }
 
@@ -220,5 +166,7 @@ pub fn allocate<S: Draws>(
     ensures worked { Worked }
     ensures nothing { NothingExercised }
 {
-    attempt(source, shorts, exercised, block, assigned)
+    let used = check(source, shorts, exercised, block, assigned)?;
+    assign(source, shorts, exercised, block, assigned);
+    Ok(used)
 }

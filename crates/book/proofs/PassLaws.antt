@@ -1,9 +1,10 @@
 -- A pass that fits says in which stage the book is.
-use Rattle.std.proofs.Common.{◌≡◌, ℕ, ◌≤◌, Bool, true, List, None, sym, refl, subst}
+use Rattle.std.proofs.Common.{◌≡◌, ℕ, ◌≤◌, Bool, true, false, List, Some, None, Option, Ok, Err, sym, refl}
 use Rattle.std.proofs.lemmas.Bool.{and_parts, true≢false, leb-true}
-use Rattle.draws.specs.Checks.{first_refusal}
+use Rattle.draws.specs.Checks.{unless, first_refusal, passed as answered}
 use Rattle.draws.specs.Meaning.{Meaning}
 use Rattle.draws.proofs.Passes.{unless_none, all_pass}
+use Rattle.ledger.specs.declared.ledger.Ledger.{Ledger}
 use Rattle.ledger.specs.declared.refusal.Refusal.{Refusal}
 use Rattle.ledger.specs.declared.refusal.Refusal.TheVariants.{PassMisfit}
 use Rattle.ledger.specs.declared.state.Stage.{Stage}
@@ -11,11 +12,10 @@ use Rattle.ledger.specs.declared.state.Stage.TheVariants.{Input, Cut, Assigned}
 use Rattle.ledger.specs.declared.state.State.{State}
 use Rattle.dayend.specs.Assignment.{needed, assignment_checks}
 use Rattle.dayend.specs.Statement.{places_needed, statement_checks}
-use Rattle.ledger.specs.Sound.{Facts, Sound}
 use Rattle.book.specs.declared.pass.InputPass.{InputPass}
 use Rattle.book.specs.declared.pass.CutPass.{CutPass}
-use Rattle.book.specs.Calls.{in_input, fits_input, refused}
-use Rattle.book.specs.Stages.{in_cut, fits_cut}
+use Rattle.book.specs.Calls.{in_input, in_cut, fits_input, refused}
+use Rattle.book.specs.Stages.{fits_cut}
 
 only_input : (g : Stage) → in_input g ≡ true → g ≡ Input
 only_input Input h = refl
@@ -24,10 +24,6 @@ only_input Assigned h = absurd (true≢false (sym h))
 
 pub input_stage : (s : State) (p : InputPass) → fits_input s p ≡ true → s.stage ≡ Input
 input_stage s p h = only_input s.stage (and_parts (in_input s.stage) _ h).0
-
--- a book whose state is t is sound where t is
-pub sound_at : (s t : State) → s ≡ t → Facts t → Sound s
-sound_at s t e f = subst Sound (sym e) ∣ f ∣₁
 
 -- an accepted call has a pass that fits, and has passed its own checks
 pub passed : (s : State) (p : InputPass) (checks : List (Bool × Refusal)) → refused s p checks ≡ None → (s.stage ≡ Input) × (first_refusal checks ≡ None)
@@ -47,3 +43,25 @@ enough_draws s m h = leb-true (needed s) m.supply (all_pass (assignment_checks s
 
 pub enough_places : (s : State) (room : ℕ) → first_refusal (statement_checks s room) ≡ None → places_needed s ≤ room
 enough_places s room h = leb-true (places_needed s) room (all_pass (statement_checks s room) h).0
+
+-- ── what a call's checks answered ──
+
+-- that the pass does not fit
+pub misfit : (b : Bool) (r : Refusal) → Err r ≡ answered (unless b PassMisfit None) → (b ≡ false) × (r ≡ PassMisfit)
+misfit true r e = absurd (cc e)
+misfit false r e = (refl, cc)
+
+-- that nothing stands against it
+pub accepted : (o : Option Refusal) → Ok tt ≡ answered o → o ≡ None
+accepted None e = refl
+accepted (Some r) e = absurd (cc e)
+
+-- that the pass fits, so that the book is in the input stage
+pub in_input_stage : (b d : Ledger) (p : InputPass) → b ≡ d → Ok tt ≡ answered (unless (fits_input d.state p) PassMisfit None) → b.state.stage ≡ Input
+in_input_stage b d p e h = rw e (input_stage d.state p (unless_none _ PassMisfit None (accepted _ h)).0)
+
+-- that it fits, and the refusal of another check
+pub turned_back : (b : Bool) (o : Option Refusal) (r : Refusal) → Ok tt ≡ answered (unless b PassMisfit None) → Err r ≡ answered o → unless b PassMisfit o ≡ Some r
+turned_back true None r h e = absurd (cc e)
+turned_back true (Some q) r h e = cc
+turned_back false o r h e = absurd (cc h)

@@ -20,9 +20,27 @@ in_input Input = true
 in_input Cut = false
 in_input Assigned = false
 
--- the pass is of this book, of this day and of its stage
+abbrev pub in_cut : Stage → Bool
+in_cut Input = false
+in_cut Cut = true
+in_cut Assigned = false
+
+abbrev pub in_assigned : Stage → Bool
+in_assigned Input = false
+in_assigned Cut = false
+in_assigned Assigned = true
+
+abbrev pub in_stage : Stage → Stage → Bool
+in_stage Input g = in_input g
+in_stage Cut g = in_cut g
+in_stage Assigned g = in_assigned g
+
+-- a pass of the stage, of that book and of that day fits
+abbrev pub fits : Stage → State → ℕ → ℕ → Bool
+fits stage s number day = in_stage stage s.stage && (number == s.terms.number && day == s.day)
+
 abbrev pub fits_input : State → InputPass → Bool
-fits_input s p = in_input s.stage && (p.number == s.terms.number && p.day == s.day)
+fits_input s p = fits Input s p.number p.day
 
 -- the refusal of a call with these checks: that the pass fits is judged first
 abbrev pub refused : State → InputPass → List (Bool × Refusal) → Option Refusal

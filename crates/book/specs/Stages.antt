@@ -1,12 +1,11 @@
 -- The calls that end a stage, and the statement.
-use Rattle.std.specs.Prelude.{ℕ, Bool, true, false, ◌&&◌, List, [], ◌∷◌, Some, None, Ok, Err, Option, Result, ◌==◌}
+use Rattle.std.specs.Prelude.{ℕ, Bool, List, [], ◌∷◌, Some, None, Ok, Err, Option, Result}
 use Rattle.draws.specs.Checks.{first_refusal}
 use Rattle.draws.specs.Meaning.{Meaning}
 use Rattle.settlement.specs.declared.line.Line.{Line}
 use Rattle.ledger.specs.declared.refusal.Refusal.{Refusal}
 use Rattle.ledger.specs.declared.refusal.Refusal.TheVariants.{PassMisfit}
-use Rattle.ledger.specs.declared.state.Stage.{Stage}
-use Rattle.ledger.specs.declared.state.Stage.TheVariants.{Input, Cut, Assigned}
+use Rattle.ledger.specs.declared.state.Stage.TheVariants.{Cut, Assigned}
 use Rattle.ledger.specs.declared.state.State.{State}
 use Rattle.dayend.specs.Cutoff.{cut_checks}
 use Rattle.dayend.specs.Assignment.{assignment_checks}
@@ -15,23 +14,13 @@ use Rattle.dayend.specs.NextDay.{next_day_checks}
 use Rattle.book.specs.declared.pass.InputPass.{InputPass}
 use Rattle.book.specs.declared.pass.CutPass.{CutPass}
 use Rattle.book.specs.declared.pass.AssignedPass.{AssignedPass}
-use Rattle.book.specs.Calls.{refused}
-
-abbrev pub in_cut : Stage → Bool
-in_cut Input = false
-in_cut Cut = true
-in_cut Assigned = false
-
-abbrev pub in_assigned : Stage → Bool
-in_assigned Input = false
-in_assigned Cut = false
-in_assigned Assigned = true
+use Rattle.book.specs.Calls.{fits, refused}
 
 abbrev pub fits_cut : State → CutPass → Bool
-fits_cut s p = in_cut s.stage && (p.number == s.terms.number && p.day == s.day)
+fits_cut s p = fits Cut s p.number p.day
 
 abbrev pub fits_assigned : State → AssignedPass → Bool
-fits_assigned s p = in_assigned s.stage && (p.number == s.terms.number && p.day == s.day)
+fits_assigned s p = fits Assigned s p.number p.day
 
 -- the pass is used up for the next one, or handed back with the refusal
 abbrev pub handed : {P Q : Type 0} → Option Refusal → P → Q → Result Q (P × Refusal)

@@ -1,10 +1,16 @@
-ghost use Rattle.ledger.specs.Sound.{Sound};
+ghost use Rattle.ledger.specs.declared.ledger.Ledger.{Ledger};
 
-use ledger::State;
+use ledger::Ledger;
+use std::marker::Model;
 
-// A day book. Its state is sound between any two calls.
+// A day book, which in contracts is its ledger.
 #[derive(Drop)]
 pub struct Book {
-    pub(crate) state: State,
-    ghost sound: { Sound state },
+    pub(crate) ledger: Ledger,
+}
+
+impl Model for Book {
+    ghost Value = { Ledger };
+
+    ghost view = { λ b. b.ledger };
 }

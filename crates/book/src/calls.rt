@@ -1,40 +1,22 @@
 ghost use Rattle.std.specs.Prelude.{◌≡◌};
-ghost use Rattle.draws.specs.Checks.{first_refusal};
-ghost use Rattle.dealing.specs.Listings.{account_checks, series_checks};
-ghost use Rattle.dealing.specs.Trades.{trade_checks};
-ghost use Rattle.transfers.specs.Transfers.{transfer_checks, give_up_checks, take_up_checks, position_checks};
-ghost use Rattle.book.specs.Calls.{fits_input, refused, account_call, series_call, trade_call, transfer_call, give_up_call, take_up_call, position_call};
+ghost use Rattle.book.specs.Calls.{account_call, series_call, trade_call, transfer_call, give_up_call, take_up_call, position_call};
 ghost use Rattle.book.specs.Opened.{opened, open_call};
 
 use crate::book::Book;
 use crate::pass::InputPass;
-use ledger::{PositionTransfer, Refusal, Stage, State, Trade};
-
-// Whether the pass is of this book, of this day and of its stage.
-pub(crate) fn fits_input(state: &State, pass: &InputPass) -> bool
-    ensures { result ≡ fits_input state.now pass.now }
-{
-    match state.stage {
-        Stage::Input => pass.number == state.terms.number && pass.day == state.day,
-        Stage::Cut => false,
-        Stage::Assigned => false,
-    }
-}
+use ledger::{Ledger, PositionTransfer, Refusal, State, Trade};
 
 impl Book {
     // Opens a book, with its first pass.
     pub fn open(number: u32, day: u32, size: u32, block: u32) -> Result<(Book, InputPass), Refusal>
         ensures { opened result ≡ open_call number day size block }
     {
-        match dealing::refuse_open(number, day, size, block) {
-            Some(refusal) => Err(refusal),
-            None => Ok((
-                Book {
-                    state: State::opening(number, day, size, block),
-                },
-                InputPass { number, day },
-            )),
-        }
+        dealing::check_open(number, day, size, block)?;
+        let state = State::opening(number, day, size, block);
+        let book = Book {
+            ledger: Ledger { state },
+        };
+        Ok((book, InputPass { number, day }))
     }
 
     // Adds an account, and answers its number.
@@ -42,13 +24,9 @@ impl Book {
         ensures reply { result ≡ (account_call self.old.state pass.now participant code).reply }
         ensures after { self.new.state ≡ (account_call self.old.state pass.now participant code).state }
     {
-        if !fits_input(&self.state, pass) {
-            return Err(Refusal::PassMisfit);
-        }
-        match dealing::refuse_account(&self.state, participant, code) {
-            Some(refusal) => Err(refusal),
-            None => Ok(dealing::add_account(&mut self.state, participant, code)),
-        }
+        self.admit(pass)?;
+        dealing::check_account(&self.ledger.state, participant, code)?;
+        Ok(dealing::add_account(&mut self.ledger.state, participant, code))
     }
 
     // Lists a series, and answers its number.
@@ -62,13 +40,9 @@ impl Book {
         ensures reply { result ≡ (series_call self.old.state pass.now right strike expiry).reply }
         ensures after { self.new.state ≡ (series_call self.old.state pass.now right strike expiry).state }
     {
-        if !fits_input(&self.state, pass) {
-            return Err(Refusal::PassMisfit);
-        }
-        match dealing::refuse_series(&self.state, right, strike, expiry) {
-            Some(refusal) => Err(refusal),
-            None => Ok(dealing::add_series(&mut self.state, right, strike, expiry)),
-        }
+        self.admit(pass)?;
+        dealing::check_series(&self.ledger.state, right, strike, expiry)?;
+        Ok(dealing::add_series(&mut self.ledger.state, right, strike, expiry))
     }
 
     // Books a trade, and answers the number of its first leg.
@@ -76,13 +50,9 @@ impl Book {
         ensures reply { result ≡ (trade_call self.old.state pass.now t.now).reply }
         ensures after { self.new.state ≡ (trade_call self.old.state pass.now t.now).state }
     {
-        if !fits_input(&self.state, pass) {
-            return Err(Refusal::PassMisfit);
-        }
-        match dealing::refuse_trade(&self.state, t) {
-            Some(refusal) => Err(refusal),
-            None => Ok(dealing::book_trade(&mut self.state, t)),
-        }
+        self.admit(pass)?;
+        dealing::check_trade(&self.ledger, t)?;
+        Ok(dealing::book_trade(&mut self.ledger.state, t))
     }
 
     // Transfers a free leg to another account of its participant.
@@ -95,16 +65,10 @@ impl Book {
         ensures reply { result ≡ (transfer_call self.old.state pass.now leg account).reply }
         ensures after { self.new.state ≡ (transfer_call self.old.state pass.now leg account).state }
     {
-        if !fits_input(&self.state, pass) {
-            return Err(Refusal::PassMisfit);
-        }
-        match transfers::refuse_transfer(&self.state, leg, account) {
-            Some(refusal) => Err(refusal),
-            None => {
-                transfers::transfer(&mut self.state, leg, account);
-                Ok(0)
-            }
-        }
+        self.admit(pass)?;
+        transfers::check_transfer(&self.ledger, leg, account)?;
+        transfers::transfer(&mut self.ledger.state, leg, account);
+        Ok(0)
     }
 
     // Holds a free leg for another participant.
@@ -112,16 +76,10 @@ impl Book {
         ensures reply { result ≡ (give_up_call self.old.state pass.now leg participant).reply }
         ensures after { self.new.state ≡ (give_up_call self.old.state pass.now leg participant).state }
     {
-        if !fits_input(&self.state, pass) {
-            return Err(Refusal::PassMisfit);
-        }
-        match transfers::refuse_give_up(&self.state, leg, participant) {
-            Some(refusal) => Err(refusal),
-            None => {
-                transfers::give_up(&mut self.state, leg, participant);
-                Ok(0)
-            }
-        }
+        self.admit(pass)?;
+        transfers::check_give_up(&self.ledger, leg, participant)?;
+        transfers::give_up(&mut self.ledger, leg, participant);
+        Ok(0)
     }
 
     // Confirms a held leg for an account of the participant it is held for (answer 1), or rejects it (answer 2).
@@ -135,16 +93,10 @@ impl Book {
         ensures reply { result ≡ (take_up_call self.old.state pass.now leg answer account).reply }
         ensures after { self.new.state ≡ (take_up_call self.old.state pass.now leg answer account).state }
     {
-        if !fits_input(&self.state, pass) {
-            return Err(Refusal::PassMisfit);
-        }
-        match transfers::refuse_take_up(&self.state, leg, answer, account) {
-            Some(refusal) => Err(refusal),
-            None => {
-                transfers::take_up(&mut self.state, leg, answer, account);
-                Ok(0)
-            }
-        }
+        self.admit(pass)?;
+        transfers::check_take_up(&self.ledger, leg, answer, account)?;
+        transfers::take_up(&mut self.ledger.state, leg, answer, account);
+        Ok(0)
     }
 
     // Moves longs or shorts to another account of the participant.
@@ -156,15 +108,9 @@ impl Book {
         ensures reply { result ≡ (position_call self.old.state pass.now t.now).reply }
         ensures after { self.new.state ≡ (position_call self.old.state pass.now t.now).state }
     {
-        if !fits_input(&self.state, pass) {
-            return Err(Refusal::PassMisfit);
-        }
-        match transfers::refuse_position(&self.state, t) {
-            Some(refusal) => Err(refusal),
-            None => {
-                transfers::move_position(&mut self.state, t);
-                Ok(0)
-            }
-        }
+        self.admit(pass)?;
+        transfers::check_position(&self.ledger, t)?;
+        transfers::move_position(&mut self.ledger.state, t);
+        Ok(0)
     }
 }

@@ -2,7 +2,6 @@ ghost use Rattle.std.specs.Prelude.{◌≡◌};
 ghost use Rattle.book.specs.Calls.{request_call, rejection_call, denial_call, criterion_call, fixing_call, lodge_call, withdrawal_call, closing_call};
 
 use crate::book::Book;
-use crate::calls::fits_input;
 use crate::pass::InputPass;
 use ledger::Refusal;
 
@@ -18,13 +17,9 @@ impl Book {
         ensures reply { result ≡ (request_call self.old.state pass.now account series quantity).reply }
         ensures after { self.new.state ≡ (request_call self.old.state pass.now account series quantity).state }
     {
-        if !fits_input(&self.state, pass) {
-            return Err(Refusal::PassMisfit);
-        }
-        match exercise::refuse_request(&self.state, account, series, quantity) {
-            Some(refusal) => Err(refusal),
-            None => Ok(exercise::add_request(&mut self.state, account, series, quantity)),
-        }
+        self.admit(pass)?;
+        exercise::check_request(&self.ledger, account, series, quantity)?;
+        Ok(exercise::add_request(&mut self.ledger.state, account, series, quantity))
     }
 
     // Rejects a pending request.
@@ -32,16 +27,10 @@ impl Book {
         ensures reply { result ≡ (rejection_call self.old.state pass.now request).reply }
         ensures after { self.new.state ≡ (rejection_call self.old.state pass.now request).state }
     {
-        if !fits_input(&self.state, pass) {
-            return Err(Refusal::PassMisfit);
-        }
-        match exercise::refuse_rejection(&self.state, request) {
-            Some(refusal) => Err(refusal),
-            None => {
-                exercise::reject_request(&mut self.state, request);
-                Ok(0)
-            }
-        }
+        self.admit(pass)?;
+        exercise::check_rejection(&self.ledger, request)?;
+        exercise::reject_request(&mut self.ledger.state, request);
+        Ok(0)
     }
 
     // Denies so many contracts of a series that expires today to the exercise without a request.
@@ -55,16 +44,10 @@ impl Book {
         ensures reply { result ≡ (denial_call self.old.state pass.now account series quantity).reply }
         ensures after { self.new.state ≡ (denial_call self.old.state pass.now account series quantity).state }
     {
-        if !fits_input(&self.state, pass) {
-            return Err(Refusal::PassMisfit);
-        }
-        match exercise::refuse_denial(&self.state, account, series, quantity) {
-            Some(refusal) => Err(refusal),
-            None => {
-                exercise::deny(&mut self.state, account, series, quantity);
-                Ok(0)
-            }
-        }
+        self.admit(pass)?;
+        exercise::check_denial(&self.ledger, account, series, quantity)?;
+        exercise::deny(&mut self.ledger, account, series, quantity);
+        Ok(0)
     }
 
     // Sets the criterion of an account, or of the house (account 0), for calls or for puts.
@@ -79,16 +62,10 @@ impl Book {
         ensures reply { result ≡ (criterion_call self.old.state pass.now account right form value).reply }
         ensures after { self.new.state ≡ (criterion_call self.old.state pass.now account right form value).state }
     {
-        if !fits_input(&self.state, pass) {
-            return Err(Refusal::PassMisfit);
-        }
-        match exercise::refuse_criterion(&self.state, account, right, form, value) {
-            Some(refusal) => Err(refusal),
-            None => {
-                exercise::set_criterion(&mut self.state, account, right, form, value);
-                Ok(0)
-            }
-        }
+        self.admit(pass)?;
+        exercise::check_criterion(&self.ledger.state, account, right, form, value)?;
+        exercise::set_criterion(&mut self.ledger.state, account, right, form, value);
+        Ok(0)
     }
 
     // Gives the fixing price.
@@ -96,16 +73,10 @@ impl Book {
         ensures reply { result ≡ (fixing_call self.old.state pass.now price).reply }
         ensures after { self.new.state ≡ (fixing_call self.old.state pass.now price).state }
     {
-        if !fits_input(&self.state, pass) {
-            return Err(Refusal::PassMisfit);
-        }
-        match exercise::refuse_fixing(price) {
-            Some(refusal) => Err(refusal),
-            None => {
-                exercise::fix_price(&mut self.state, price);
-                Ok(0)
-            }
-        }
+        self.admit(pass)?;
+        exercise::check_fixing(price)?;
+        exercise::fix_price(&mut self.ledger.state, price);
+        Ok(0)
     }
 
     // Adds shares to an account's collateral.
@@ -113,16 +84,10 @@ impl Book {
         ensures reply { result ≡ (lodge_call self.old.state pass.now account shares).reply }
         ensures after { self.new.state ≡ (lodge_call self.old.state pass.now account shares).state }
     {
-        if !fits_input(&self.state, pass) {
-            return Err(Refusal::PassMisfit);
-        }
-        match exercise::refuse_lodge(&self.state, account, shares) {
-            Some(refusal) => Err(refusal),
-            None => {
-                exercise::lodge(&mut self.state, account, shares);
-                Ok(0)
-            }
-        }
+        self.admit(pass)?;
+        exercise::check_lodge(&self.ledger, account, shares)?;
+        exercise::lodge(&mut self.ledger, account, shares);
+        Ok(0)
     }
 
     // Takes shares from it.
@@ -130,16 +95,10 @@ impl Book {
         ensures reply { result ≡ (withdrawal_call self.old.state pass.now account shares).reply }
         ensures after { self.new.state ≡ (withdrawal_call self.old.state pass.now account shares).state }
     {
-        if !fits_input(&self.state, pass) {
-            return Err(Refusal::PassMisfit);
-        }
-        match exercise::refuse_withdrawal(&self.state, account, shares) {
-            Some(refusal) => Err(refusal),
-            None => {
-                exercise::withdraw(&mut self.state, account, shares);
-                Ok(0)
-            }
-        }
+        self.admit(pass)?;
+        exercise::check_withdrawal(&self.ledger, account, shares)?;
+        exercise::withdraw(&mut self.ledger, account, shares);
+        Ok(0)
     }
 
     // Ends trading for the day.
@@ -147,10 +106,8 @@ impl Book {
         ensures reply { result ≡ (closing_call self.old.state pass.now).reply }
         ensures after { self.new.state ≡ (closing_call self.old.state pass.now).state }
     {
-        if !fits_input(&self.state, pass) {
-            return Err(Refusal::PassMisfit);
-        }
-        exercise::close_trading(&mut self.state);
+        self.admit(pass)?;
+        exercise::close_trading(&mut self.ledger.state);
         Ok(0)
     }
 }

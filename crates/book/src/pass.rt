@@ -1,3 +1,4 @@
+// Kept: three types of the same fields, so that no call takes another stage's pass; marker types would be three more.
 // The right to the calls of the input stage of one book on one day.
 #[derive(Drop)]
 pub struct InputPass {

@@ -1,3 +1,2 @@
-pub mod ListingLaws
 pub mod OpenLaws
 pub mod TradeLaws

@@ -1,5 +1,6 @@
 -- Opening a book, adding an account, listing a series.
-use Rattle.std.specs.Prelude.{ℕ, Bool, false, not, ◌&&◌, ◌||◌, List, [], ◌∷◌, take, ◌==◌, nat_lt}
+use Rattle.std.specs.Prelude.{ℕ, Bool, not, ◌&&◌, List, [], ◌∷◌, take, ◌==◌, nat_lt}
+use Rattle.std.specs.List.{list_any}
 use Rattle.positions.specs.Kinds.{right_of_code, type_of_code, same_right}
 use Rattle.ledger.specs.declared.refusal.Refusal.{Refusal}
 use Rattle.ledger.specs.declared.refusal.Refusal.TheVariants.{OutOfRange, ListedAlready, Full}
@@ -36,8 +37,7 @@ abbrev pub same_contract : Contract → Contract → Bool
 same_contract a b = same_right a.right b.right && (a.strike == b.strike && a.expiry == b.expiry)
 
 abbrev pub any_same : Contract → List Series → Bool
-any_same c [] = false
-any_same c (r ∷ rs) = same_contract r.contract c || any_same c rs
+any_same c rows = list_any (λ r. same_contract r.contract c) rows
 
 -- whether a listed series has that contract
 abbrev pub listed : Listing → Contract → Bool

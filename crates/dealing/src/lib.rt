@@ -5,6 +5,6 @@ mod listings;
 mod trades;
 
 pub use listings::{
-    add_account, add_series, check_account, check_open, check_series, contract_of, is_same, lists,
+    add_account, add_series, check_account, check_open, check_series, contract_of, lists,
 };
 pub use trades::{Fill, book_trade, check_trade};

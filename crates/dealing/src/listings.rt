@@ -1,9 +1,9 @@
 ghost use Rattle.std.specs.Prelude.{◌≡◌, ◌+◌, ◌<◌, ◌≤◌};
 ghost use Rattle.draws.specs.Checks.{checked};
-ghost use Rattle.dealing.specs.Listings.{open_checks, account_checks, account_added, contract_of, same_contract, listed, series_checks, series_added};
+ghost use Rattle.dealing.specs.Listings.{open_checks, account_checks, account_added, contract_of, listed, series_checks, series_added};
 
 use ledger::{Account, Contract, Listing, Refusal, Series, State, is_within};
-use positions::{AccountType, Cell, Right};
+use positions::{AccountType, Right};
 
 // Why an opening is turned back, if it is.
 pub fn check_open(number: u32, day: u32, size: u32, block: u32) -> Result<(), Refusal>
@@ -29,30 +29,20 @@ pub fn contract_of(right: u32, strike: u32, expiry: u32) -> Contract
     }
 }
 
-pub fn is_same(one: &Contract, other: &Contract) -> bool
-    ensures { result ≡ same_contract one.now other.now }
-{
-    one.right.is(other.right) && one.strike == other.strike && one.expiry == other.expiry
-}
-
 // Whether a listed series has that contract.
 pub fn lists(listing: &Listing, contract: &Contract) -> bool
     requires { listing.now.count ≤ 32 }
     ensures { result ≡ listed listing.now contract.now }
 {
-    for i in 0..listing.count as usize {
-        if is_same(&listing.rows[i].contract, contract) {
-            return true;
-        }
-    }
-    false
+    let rows = &listing.rows[..listing.count as usize];
+    rows.iter().any(|row| row.contract == *contract)
 }
 
 // Why an account is turned back, if it is.
 pub fn check_account(book: &State, participant: u32, code: u32) -> Result<(), Refusal>
     ensures { result ≡ checked (account_checks book.now participant code) }
 {
-    if !is_within(participant, 1, 99) || !is_within(code, 1, 4) {
+    if !is_within(participant, 1, 99) || AccountType::try_from(code).is_err() {
         return Err(Refusal::OutOfRange);
     }
     if book.accounts.count >= 32 {
@@ -67,13 +57,8 @@ pub fn add_account(book: &mut State, participant: u32, code: u32) -> u32
     ensures number { result ≡ book.old.accounts.count + 1 }
     ensures after { book.new ≡ account_added book.old participant code }
 {
-    book.accounts.push(Account {
-        participant,
-        account_type: AccountType::of_code(code),
-        collateral: 0,
-        calls: None,
-        puts: None,
-    })
+    let account_type = AccountType::of_code(code);
+    book.accounts.push(Account::new(participant, account_type))
 }
 
 // Why a series is turned back, if it is.
@@ -81,7 +66,7 @@ pub fn check_series(book: &State, right: u32, strike: u32, expiry: u32) -> Resul
     requires { book.now.series.count ≤ 32 }
     ensures { result ≡ checked (series_checks book.now right strike expiry) }
 {
-    if !is_within(right, 1, 2)
+    if Right::try_from(right).is_err()
         || !is_within(strike, 1, 1_000_000)
         || !is_within(expiry, book.day, 99_999)
     {
@@ -103,8 +88,6 @@ pub fn add_series(book: &mut State, right: u32, strike: u32, expiry: u32) -> u32
     ensures number { result ≡ book.old.series.count + 1 }
     ensures after { book.new ≡ series_added book.old right strike expiry }
 {
-    book.series.push(Series {
-        contract: contract_of(right, strike, expiry),
-        cells: [Cell::empty(); 32],
-    })
+    let contract = contract_of(right, strike, expiry);
+    book.series.push(Series::new(contract))
 }

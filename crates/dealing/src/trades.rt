@@ -1,6 +1,7 @@
 ghost use Rattle.std.specs.Prelude.{◌≡◌, ◌+◌, ◌≤◌, true};
 ghost use Rattle.draws.specs.Checks.{checked};
-ghost use Rattle.positions.specs.Rows.{total_longs, Below};
+ghost use Rattle.positions.specs.Rows.{Below};
+ghost use Rattle.ledger.specs.Tables.{RowNumber};
 ghost use Rattle.ledger.specs.Lookups.{has_account, has_series};
 ghost use Rattle.dealing.specs.Trades.{trade_in_range, account_on, leg_on, placed_on, closed_on, buyer_leg, seller_leg, fill_in, fill_of, trade_checks, traded};
 ghost use Rattle.ledger.specs.Sound.{Facts};
@@ -19,8 +20,8 @@ pub struct Fill {
 fn in_range(t: &Trade) -> bool
     ensures { result ≡ trade_in_range t.now }
 {
-    is_within(t.buyer_effect, 1, 2)
-        && is_within(t.seller_effect, 1, 2)
+    Effect::try_from(t.buyer_effect).is_ok()
+        && Effect::try_from(t.seller_effect).is_ok()
         && is_within(t.quantity, 1, 100_000)
         && is_within(t.price, 1, 1_000_000)
 }
@@ -47,7 +48,7 @@ fn leg_on(side: Side, t: &Trade) -> Leg
 
 // Books one side's leg in the cells of a series, and answers the leg.
 fn place_leg(cells: &mut [Cell; 32], side: Side, t: &Trade) -> Leg
-    requires account { (1 ≤ account_on side t.now) × (account_on side t.now ≤ 32) }
+    requires account { RowNumber 32 (account_on side t.now) }
     requires small { Below cells.old 300_000 }
     requires few { t.now.quantity ≤ 100_000 }
     ensures leg { result ≡ leg_on side t.now (closed_on side t.now cells.old) }
@@ -66,8 +67,8 @@ fn place_leg(cells: &mut [Cell; 32], side: Side, t: &Trade) -> Leg
 
 // Books both legs in the cells of a series, the buyer's first, and answers them.
 fn place_legs(cells: &mut [Cell; 32], t: &Trade) -> (Leg, Leg)
-    requires buyer { (1 ≤ t.now.buyer) × (t.now.buyer ≤ 32) }
-    requires seller { (1 ≤ t.now.seller) × (t.now.seller ≤ 32) }
+    requires buyer { RowNumber 32 t.now.buyer }
+    requires seller { RowNumber 32 t.now.seller }
     requires small { Below cells.old 100_000 }
     requires few { t.now.quantity ≤ 100_000 }
     ensures legs { result ≡ (buyer_leg t.now (fill_in cells.old t.now).bought, seller_leg t.now (fill_in cells.old t.now).sold) }
@@ -125,6 +126,7 @@ pub fn check_trade(book: &Ledger, t: &Trade) -> Result<(), Refusal>
 }
 
 // Books both legs, and answers the first one's number.
+// Kept: `Facts` is asked; of a `&mut Ledger` the goal `invariant_of-book` does not close without the input stage.
 pub fn book_trade(book: &mut State, t: &Trade) -> u32
     requires sound { Facts book.old }
     requires buyer { has_account book.old t.now.buyer ≡ true }

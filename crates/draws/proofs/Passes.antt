@@ -1,6 +1,6 @@
 -- Where no refusal speaks, every check has passed.
-use Rattle.std.proofs.Common.{◌≡◌, Bool, true, false, List, [], ◌∷◌, Some, None, Option, Ok, refl}
-use Rattle.draws.specs.Checks.{unless, first_refusal, AllPass, passed}
+use Rattle.std.proofs.Common.{◌≡◌, Bool, true, false, List, [], ◌∷◌, Some, None, Option, refl}
+use Rattle.draws.specs.Checks.{unless, first_refusal, AllPass}
 
 pub unless_none : {R : Type 0} (b : Bool) (r : R) (rest : Option R) → unless b r rest ≡ None → (b ≡ true) × (rest ≡ None)
 unless_none true r rest e = (refl, e)
@@ -9,8 +9,3 @@ unless_none false r rest e = absurd (cc e)
 pub all_pass : {R : Type 0} (cs : List (Bool × R)) → first_refusal cs ≡ None → AllPass cs
 all_pass [] e = tt
 all_pass (c ∷ cs) e = let p = unless_none c.0 c.1 (first_refusal cs) e in (p.0, all_pass cs p.1)
-
--- checks that answer Ok refuse nothing
-pub none_from_passed : {R : Type 0} (o : Option R) → passed o ≡ Ok tt → o ≡ None
-none_from_passed None e = refl
-none_from_passed (Some r) e = absurd (cc e)

@@ -157,7 +157,7 @@ module _ (s : State) (y : Count) (p : InputPass) (k : Kept y s) where
       by_outcome (refused s p (criterion_checks s account right form value)) s _ 0 y _ reply k (λ h. record { tied = tied_criterion y s account right form value same; sound = facts_criterion s account right form value k.sound }) e
   exercise_step (DenyExercise a i q) reply e =
       by_outcome (refused s p (denial_checks s a i q)) s _ 0 y _ reply k
-      (λ h. let d = deniable s a i q (passed s p (denial_checks s a i q) h).1 in record { tied = tied_denied y s a i q k.sound d same; sound = facts_denied s a i q k.sound d }) e
+      (λ h. let d = deniable s a i q (passed s p (denial_checks s a i q) h).1 in record { tied = tied_denied y s a i q k.sound d same; sound = facts_denied s a i q k.sound d.known d.listed }) e
   exercise_step (FixPrice price) reply e =
       by_outcome (refused s p (fixing_checks price)) s _ 0 y _ reply k (λ h. record { tied = record { cells = same.cells; legs = same.legs }; sound = facts_fixed s price k.sound }) e
   exercise_step (LodgeShares a n) reply e =

@@ -1,5 +1,5 @@
 -- An accepted position transfer.
-use Rattle.std.proofs.Common.{◌≡◌, ℕ, ◌-◌, ◌<◌, ◌≤◌, true, not, eqb, ◌≢◌, List, length, get_or, set, None, sym, ◌∙◌, subst, arith, length-set}
+use Rattle.std.proofs.Common.{◌≡◌, ℕ, ◌+◌, ◌-◌, ◌<◌, ◌≤◌, true, not, eqb, ◌≢◌, List, length, get_or, set, sum_by, None, sym, ◌∙◌, subst, arith, length-set}
 use Rattle.std.proofs.lemmas.List.{get_or-set_other}
 use Rattle.std.proofs.lemmas.List.Sums.{sum_by-set}
 use Rattle.std.proofs.lemmas.Bool.{and_parts, leb-true, eqb-false, not-true}
@@ -45,30 +45,25 @@ transferable s t h =
       there = leb-true _ _ a.1.1.1.1.1.0;
     }
 
+-- a sum over cells of which two change
+moved_sum : (f : Cell → ℕ) (cells : List Cell) (from to : ℕ) (c d : Cell) → from < length cells → to < length cells → to ≢ from → sum_by f (set (set cells from c) to d) + (f (get_or cells from no_cell) + f (get_or cells to no_cell)) ≡ sum_by f cells + (f c + f d)
+moved_sum f cells from to c d lf lt other =
+    let one = sum_by-set f cells from c no_cell lf in
+    let two = sum_by-set f (set cells from c) to d no_cell (omega (arith, length-set cells from c)) in
+    omega (arith, one, rw (get_or-set_other cells from to c no_cell other) at two)
+
 -- one side's total stays, the other is not touched
-move_even : (side : Side) (cells : List Cell) (from to q : ℕ) → from < length cells → to < length cells → from ≢ to → q ≤ on_side side (get_or cells from no_cell)
+move_even : (side : Side) (cells : List Cell) (from to q : ℕ) → from < length cells → to < length cells → to ≢ from → q ≤ on_side side (get_or cells from no_cell)
     → (total_longs (set (set cells from (given (get_or cells from no_cell) side q)) to (received (get_or cells to no_cell) side q)) ≡ total_longs cells)
     × (total_shorts (set (set cells from (given (get_or cells from no_cell) side q)) to (received (get_or cells to no_cell) side q)) ≡ total_shorts cells)
-move_even Buy cells from to q lf lt apart h =
+move_even Buy cells from to q lf lt other h =
     let c = given (get_or cells from no_cell) Buy q in
     let d = received (get_or cells to no_cell) Buy q in
-    let other : to ≢ from = λ e. apart (sym e) in
-    let same = get_or-set_other cells from to c no_cell other in
-    let l = sum_by-set (λ (c : Cell). c.longs) cells from c no_cell lf in
-    let r = sum_by-set (λ (c : Cell). c.shorts) cells from c no_cell lf in
-    let l' = sum_by-set (λ (c : Cell). c.longs) (set cells from c) to d no_cell (omega (arith, length-set cells from c)) in
-    let r' = sum_by-set (λ (c : Cell). c.shorts) (set cells from c) to d no_cell (omega (arith, length-set cells from c)) in
-    (omega (arith, l, rw same at l', h), omega (arith, r, rw same at r'))
-move_even Sell cells from to q lf lt apart h =
+    (omega (arith, moved_sum (λ c. c.longs) cells from to c d lf lt other, h), omega (arith, moved_sum (λ c. c.shorts) cells from to c d lf lt other))
+move_even Sell cells from to q lf lt other h =
     let c = given (get_or cells from no_cell) Sell q in
     let d = received (get_or cells to no_cell) Sell q in
-    let other : to ≢ from = λ e. apart (sym e) in
-    let same = get_or-set_other cells from to c no_cell other in
-    let l = sum_by-set (λ (c : Cell). c.longs) cells from c no_cell lf in
-    let r = sum_by-set (λ (c : Cell). c.shorts) cells from c no_cell lf in
-    let l' = sum_by-set (λ (c : Cell). c.longs) (set cells from c) to d no_cell (omega (arith, length-set cells from c)) in
-    let r' = sum_by-set (λ (c : Cell). c.shorts) (set cells from c) to d no_cell (omega (arith, length-set cells from c)) in
-    (omega (arith, l, rw same at l'), omega (arith, r, rw same at r', h))
+    (omega (arith, moved_sum (λ c. c.longs) cells from to c d lf lt other), omega (arith, moved_sum (λ c. c.shorts) cells from to c d lf lt other, h))
 
 module _ (s : State) (t : PositionTransfer) (f : Facts s) (input : s.stage ≡ Input) (a : Transferable s t) where
   abbrev cells : List Cell
@@ -113,7 +108,7 @@ module _ (s : State) (t : PositionTransfer) (f : Facts s) (input : s.stage ≡ I
 
   pub moved_balanced : Balanced (moved_cells s t)
   moved_balanced =
-      let e = move_even side cells (t.from - 1) (t.to - 1) t.quantity from to (λ k. other (sym k)) a.there in
+      let e = move_even side cells (t.from - 1) (t.to - 1) t.quantity from to other a.there in
       let u = settled_set cells (t.from - 1) giver (aside_given (get_or cells (t.from - 1) no_cell) side t.quantity) from b.2 in
       let w = settled_set (set cells (t.from - 1) giver) (t.to - 1) receiver aside_receiver (omega (arith, to, length-set cells (t.from - 1) giver)) u in
       (length-set _ _ _ ∙ length-set cells _ _ ∙ b.0, (omega (arith, e.0, e.1, b.1.0), omega (arith, e.0, b.1.1)), w)

@@ -1,10 +1,10 @@
-ghost use Rattle.std.specs.Prelude.{◌≡◌, ◌-◌, ◌≤◌, true, slice_index_or};
+ghost use Rattle.std.specs.Prelude.{◌≡◌, ◌-◌, ◌≤◌, true, slice_index_or, if◌then◌else◌, Some, None, IfSome};
 ghost use Rattle.draws.specs.Checks.{checked};
 ghost use Rattle.positions.specs.Cells.{no_cell, on_side};
 ghost use Rattle.positions.specs.Kinds.{side_of_code};
 ghost use Rattle.positions.specs.Legs.{open_part};
 ghost use Rattle.positions.specs.Rows.{Below};
-ghost use Rattle.ledger.specs.Tables.{cell_at, leg_of, with_cells};
+ghost use Rattle.ledger.specs.Tables.{RowNumber, cell_at, leg_of};
 ghost use Rattle.ledger.specs.Lookups.{has_account, has_series, has_leg};
 ghost use Rattle.transfers.specs.Transfers.{rebooking_in, rebooking_of, still_there, rebooking_checks, transferred, transfer_checks, give_up_checks, given_up, confirms, take_up_checks, taken_up, position_checks, position_moved};
 ghost use Rattle.ledger.specs.Sound.{Facts, ValidLeg};
@@ -21,8 +21,8 @@ pub struct Rebooking {
 
 // Takes the leg from its account's cell and books it anew in the other's, and answers its closed part there.
 fn rebook(cells: &mut [Cell; 32], leg: &Leg, account: u32) -> u32
-    requires from { (1 ≤ leg.now.account) × (leg.now.account ≤ 32) }
-    requires to { (1 ≤ account) × (account ≤ 32) }
+    requires from { RowNumber 32 leg.now.account }
+    requires to { RowNumber 32 account }
     requires small { Below cells.old 100_000 }
     requires part { (leg.now.closed ≤ leg.now.quantity) × (leg.now.quantity ≤ 100_000) }
     requires enough { open_part leg.now ≤ on_side leg.now.side (slice_index_or cells.old (leg.now.account - 1) no_cell) }
@@ -53,6 +53,14 @@ fn rebooking_of(book: &Ledger, leg: &Leg, account: u32) -> Rebooking
     Rebooking { cells, closed }
 }
 
+// The leg of that number, if the book has it.
+fn find_leg(book: &Ledger, n: u32) -> Option<Leg>
+    ensures found { result ≡ if has_leg book.now.state n then Some (leg_of book.now.state n) else None }
+    ensures valid { IfSome result (ValidLeg book.now.state) }
+{
+    book.state.has_leg(n).then(|| *book.state.legs.row(n))
+}
+
 // Whether the leg's account still holds the leg's open part on its side, and the series' longs stay within their limit
 // when the leg is booked anew.
 fn check_rebooking(book: &Ledger, leg: &Leg, account: u32) -> Result<(), Refusal>
@@ -77,10 +85,7 @@ pub fn check_transfer(book: &Ledger, leg: u32, account: u32) -> Result<(), Refus
     if !book.state.has_account(account) {
         return Err(Refusal::NoAccount);
     }
-    if !book.state.has_leg(leg) {
-        return Err(Refusal::NoLeg);
-    }
-    let booked = book.state.legs.rows[leg as usize - 1];
+    let booked = find_leg(book, leg).ok_or(Refusal::NoLeg)?;
     if !book.state.another_of_same(booked.account, account) {
         return Err(Refusal::WrongAccount);
     }
@@ -91,6 +96,7 @@ pub fn check_transfer(book: &Ledger, leg: u32, account: u32) -> Result<(), Refus
 }
 
 // Books the leg anew in the other account.
+// Kept: `Facts` is asked; of a `&mut Ledger` the goal `invariant_of-book` does not close without the input stage.
 pub fn transfer(book: &mut State, leg: u32, account: u32)
     requires sound { Facts book.old }
     requires known { has_account book.old account ≡ true }
@@ -98,7 +104,7 @@ pub fn transfer(book: &mut State, leg: u32, account: u32)
     requires enough { still_there book.old (leg_of book.old leg) ≡ true }
     ensures { book.new ≡ transferred book.old leg account }
 {
-    let booked = book.legs.rows[leg as usize - 1];
+    let booked = *book.legs.row(leg);
     let cells = &mut book.series.rows[booked.series as usize - 1].cells;
     let closed = rebook(cells, &booked, account);
     book.legs.rebook(leg as usize - 1, account, closed);
@@ -111,10 +117,7 @@ pub fn check_give_up(book: &Ledger, leg: u32, participant: u32) -> Result<(), Re
     if !is_within(participant, 1, 99) {
         return Err(Refusal::OutOfRange);
     }
-    if !book.state.has_leg(leg) {
-        return Err(Refusal::NoLeg);
-    }
-    let booked = book.state.legs.rows[leg as usize - 1];
+    let booked = find_leg(book, leg).ok_or(Refusal::NoLeg)?;
     if book.state.participant(booked.account) == participant {
         return Err(Refusal::WrongAccount);
     }
@@ -135,6 +138,7 @@ pub fn give_up(book: &mut Ledger, leg: u32, participant: u32)
 }
 
 // Why a take-up is turned back, if it is.
+// Kept: the answer is the archive's number.
 pub fn check_take_up(book: &Ledger, leg: u32, answer: u32, account: u32) -> Result<(), Refusal>
     ensures { result ≡ checked (take_up_checks book.now.state leg answer account) }
 {
@@ -145,10 +149,7 @@ pub fn check_take_up(book: &Ledger, leg: u32, answer: u32, account: u32) -> Resu
     if confirms && !book.state.has_account(account) {
         return Err(Refusal::NoAccount);
     }
-    if !book.state.has_leg(leg) {
-        return Err(Refusal::NoLeg);
-    }
-    let booked = book.state.legs.rows[leg as usize - 1];
+    let booked = find_leg(book, leg).ok_or(Refusal::NoLeg)?;
     if is_free(booked.state) {
         return Err(Refusal::LegFree);
     }
@@ -162,6 +163,7 @@ pub fn check_take_up(book: &Ledger, leg: u32, answer: u32, account: u32) -> Resu
 }
 
 // Confirms the held leg for the account, or rejects it.
+// Kept: `Facts` is asked, since `transfer` asks it.
 pub fn take_up(book: &mut State, leg: u32, answer: u32, account: u32)
     requires sound { Facts book.old }
     requires leg { has_leg book.old leg ≡ true }
@@ -182,7 +184,8 @@ pub fn take_up(book: &mut State, leg: u32, answer: u32, account: u32)
 pub fn check_position(book: &Ledger, t: &PositionTransfer) -> Result<(), Refusal>
     ensures { result ≡ checked (position_checks book.now.state t.now) }
 {
-    if !is_within(t.side, 1, 2) || !is_within(t.quantity, 1, 100_000) {
+    let side = Side::try_from(t.side).map_err(|_| Refusal::OutOfRange)?;
+    if !is_within(t.quantity, 1, 100_000) {
         return Err(Refusal::OutOfRange);
     }
     if !book.state.has_account(t.from) || !book.state.has_account(t.to) {
@@ -198,13 +201,14 @@ pub fn check_position(book: &Ledger, t: &PositionTransfer) -> Result<(), Refusal
         return Err(Refusal::WrongAccount);
     }
     let cell = book.state.cell(t.from, t.series);
-    if t.quantity > cell.on_side(Side::of_code(t.side)) {
+    if t.quantity > cell.on_side(side) {
         return Err(Refusal::TooFew);
     }
     Ok(())
 }
 
 // Moves the contracts.
+// Kept: `Facts` is asked; of a `&mut Ledger` the goal `invariant_of-book` does not close without the input stage.
 pub fn move_position(book: &mut State, t: &PositionTransfer)
     requires sound { Facts book.old }
     requires from { has_account book.old t.now.from ≡ true }

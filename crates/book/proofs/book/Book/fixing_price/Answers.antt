@@ -1,10 +1,8 @@
-use Rattle.ledger.proofs.FactLaws.{facts}
+use Rattle.ledger.proofs.FactLaws.{facts, sound_at}
 use Rattle.exercise.proofs.CriteriaLaws.{facts_fixed}
-use Rattle.book.proofs.PassLaws.{sound_at}
 use Rattle.book.proofs.book.Book.fixing_price.Goals as goal
 
-pub invariant_of-self : goal.invariant_of-self
-invariant_of-self c =
-    let s = c.args.self.now.state in
-    let f = facts s c.args.self.now.sound in
-    record { sound = sound_at _ _ c.fix_price.ensures (facts_fixed s c.args.price f) }
+pub invariant_of-self-inside : goal.invariant_of-self-inside
+invariant_of-self-inside c =
+    let b = c.self.inside.ledger in
+    record { sound = sound_at _ _ c.fix_price.ensures (facts_fixed b.state c.args.price (facts b.state b.sound)) }

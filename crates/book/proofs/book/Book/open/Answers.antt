@@ -1,7 +1,7 @@
-use Rattle.std.proofs.Common.{sym}
+use Rattle.ledger.proofs.FactLaws.{sound_at}
 use Rattle.dealing.proofs.OpenLaws.{facts_opened}
-use Rattle.book.proofs.PassLaws.{sound_at}
+use Rattle.book.proofs.PassLaws.{accepted}
 use Rattle.book.proofs.book.Book.open.Goals as goal
 
-pub invariant_of-result : goal.invariant_of-result
-invariant_of-result c = record { sound = sound_at _ _ c.opening.ensures (facts_opened c.args.number c.args.day c.args.size c.args.block (sym c.in-None.ensures)) }
+pub invariant_of-book : goal.invariant_of-book
+invariant_of-book c = record { sound = sound_at _ _ c.opening-state.ensures (facts_opened c.args.number c.args.day c.args.size c.args.block (accepted _ c.in_ok-check_open.ensures)) }

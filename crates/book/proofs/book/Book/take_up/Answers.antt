@@ -1,26 +1,19 @@
-use Rattle.std.proofs.Common.{sym, ◌∙◌}
-use Rattle.ledger.proofs.FactLaws.{facts}
-use Rattle.transfers.proofs.TransferLaws.{take_up_leg, confirmable, facts_taken_up}
-use Rattle.book.proofs.PassLaws.{input_stage, sound_at}
+use Rattle.std.proofs.Common.{rules}
+use Rattle.ledger.proofs.FactLaws.{facts, sound_at}
+use Rattle.transfers.proofs.TransferLaws.{facts_taken_up}
+use Rattle.book.proofs.PassLaws.{accepted, in_input_stage, misfit, turned_back}
 use Rattle.book.proofs.book.Book.take_up.Goals as goal
 
-pub refuse_take_up-requires : goal.refuse_take_up-requires
-refuse_take_up-requires c = facts c.args.self.now.state c.args.self.now.sound
+pub returns-in_err-admit : goal.returns-in_err-admit
+returns-in_err-admit c = let h = misfit _ _ c.in_err-admit.ensures in search rules
 
-pub take_up-requires : goal.take_up-requires
-take_up-requires c =
-    let s = c.args.self.now.state in
-    let h = (sym c.in-None.ensures) in
-    record {
-      sound = facts s c.args.self.now.sound;
-      leg = take_up_leg s c.args.leg c.args.answer c.args.account h;
-      known = λ on. (confirmable s c.args.leg c.args.answer c.args.account h on).known;
-      enough = λ on. (confirmable s c.args.leg c.args.answer c.args.account h on).there;
-    }
+pub returns-in_err-check_take_up : goal.returns-in_err-check_take_up
+returns-in_err-check_take_up c = let h = turned_back _ _ _ c.in_ok-admit.ensures c.in_err-check_take_up.ensures in search rules
 
-pub invariant_of-self : goal.invariant_of-self
-invariant_of-self c =
-    let s = c.args.self.now.state in
-    let f = facts s c.args.self.now.sound in
-    let input = input_stage s c.args.pass.now (sym c.fits_input.ensures ∙ c.if-not-fits_input.false) in
-    record { sound = sound_at _ _ c.take_up.ensures (facts_taken_up s c.args.leg c.args.answer c.args.account f input (sym c.in-None.ensures)) }
+pub take_up-requires-clause-sound : goal.take_up-requires-clause-sound
+take_up-requires-clause-sound c = let b = c.self.inside.ledger in facts b.state b.sound
+
+pub invariant_of-self-inside : goal.invariant_of-self-inside
+invariant_of-self-inside c =
+    let b = c.self.inside.ledger in
+    record { sound = sound_at _ _ c.take_up.ensures (facts_taken_up b.state c.args.leg c.args.answer c.args.account (facts b.state b.sound) (in_input_stage b _ c.args.pass.now c.self.view_is c.in_ok-admit.ensures) (accepted _ c.in_ok-check_take_up.ensures)) }

@@ -1,20 +1,19 @@
-use Rattle.std.proofs.Common.{sym, ◌∙◌}
-use Rattle.ledger.proofs.FactLaws.{facts}
-use Rattle.dealing.proofs.TradeLaws.{admitted, facts_traded}
-use Rattle.book.proofs.PassLaws.{input_stage, sound_at}
+use Rattle.std.proofs.Common.{rules}
+use Rattle.ledger.proofs.FactLaws.{facts, sound_at}
+use Rattle.dealing.proofs.TradeLaws.{admitted as tradable, facts_traded}
+use Rattle.book.proofs.PassLaws.{accepted, in_input_stage, misfit, turned_back}
 use Rattle.book.proofs.book.Book.trade.Goals as goal
 
-pub refuse_trade-requires : goal.refuse_trade-requires
-refuse_trade-requires c = facts c.args.self.now.state c.args.self.now.sound
+pub returns-in_err-admit : goal.returns-in_err-admit
+returns-in_err-admit c = let h = misfit _ _ c.in_err-admit.ensures in search rules
 
-pub book_trade-requires : goal.book_trade-requires
-book_trade-requires c =
-    let a = admitted c.args.self.now.state c.args.t.now (sym c.in-None.ensures) in
-    record { sound = facts c.args.self.now.state c.args.self.now.sound; buyer = a.buyer; seller = a.seller; listed = a.listed; range = a.range; room = a.room }
+pub returns-in_err-check_trade : goal.returns-in_err-check_trade
+returns-in_err-check_trade c = let h = turned_back _ _ _ c.in_ok-admit.ensures c.in_err-check_trade.ensures in search rules
 
-pub invariant_of-self : goal.invariant_of-self
-invariant_of-self c =
-    let s = c.args.self.now.state in
-    let f = facts s c.args.self.now.sound in
-    let input = input_stage s c.args.pass.now (sym c.fits_input.ensures ∙ c.if-not-fits_input.false) in
-    record { sound = sound_at _ _ c.book_trade.ensures.after (facts_traded s c.args.t.now f input (admitted s c.args.t.now (sym c.in-None.ensures))) }
+pub book_trade-requires-clause-sound : goal.book_trade-requires-clause-sound
+book_trade-requires-clause-sound c = let b = c.self.inside.ledger in facts b.state b.sound
+
+pub invariant_of-self-inside : goal.invariant_of-self-inside
+invariant_of-self-inside c =
+    let b = c.self.inside.ledger in
+    record { sound = sound_at _ _ c.book_trade.ensures.after (facts_traded b.state c.args.t.now (facts b.state b.sound) (in_input_stage b _ c.args.pass.now c.self.view_is c.in_ok-admit.ensures) (tradable b.state c.args.t.now (accepted _ c.in_ok-check_trade.ensures))) }
