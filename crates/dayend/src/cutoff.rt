@@ -32,7 +32,6 @@ fn note(wanted: &mut [u32; 32], request: &Request, series: u32)
 // What all requests ask of each account in the series.
 fn asked_in(requests: &Requests, series: u32) -> [u32; 32]
     requires count { requests.now.count ≤ 128 }
-    requires size { length requests.now.rows ≡ 128 }
     requires small { (k : ℕ) → (slice_index_or requests.now.rows k no_request).quantity ≤ 100_000 }
     ensures { (a : ℕ) → a < 32 → slice_index result a ≡ asked requests.now (a + 1) series }
 {
@@ -109,7 +108,7 @@ fn cut_cells(
 // The series after the cut, each by its place.
 fn cut_rows(book: &mut State)
     requires { Facts book.old }
-    ensures { book.new ≡ with_listing book.old (record { rows = each (cut_series book.old) book.old.series.rows; count = book.old.series.count }) }
+    ensures { book.new ≡ with_listing book.old (record book.old.series { rows = each (cut_series book.old) book.old.series.rows }) }
 {
     let automatic = automatic(book);
     let State {
@@ -118,6 +117,7 @@ fn cut_rows(book: &mut State)
         requests,
         ..
     } = book;
+    // Kept: an index, as in `cut_cells`.
     for (i, row) in series.rows.iter_mut().enumerate() {
         let wanted = asked_in(requests, i as u32 + 1);
         cut_cells(&mut row.cells, &accounts.rows, &wanted, &automatic[i]);
