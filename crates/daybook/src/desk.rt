@@ -2,6 +2,7 @@ ghost use Rattle.daybook.specs.Ends.{EndsAt};
 
 use host::Host;
 use lines::Text;
+use memchr::memchr;
 use std::alloc::Global;
 use std::io;
 use std::io::{BufWriter, Stdout, Write};
@@ -20,12 +21,7 @@ pub struct Desk {
 fn line_end(bytes: &[u8]) -> Option<usize>
     ensures { EndsAt bytes.now result }
 {
-    for (i, b) in bytes.iter().enumerate() {
-        if *b == b'\n' {
-            return Some(i + 1);
-        }
-    }
-    None
+    Some(memchr(b'\n', bytes)? + 1)
 }
 
 // Writes the answer to one line.
@@ -37,10 +33,11 @@ fn answer(
 ) -> io::Result<()> {
     let statements = host.answer_into(line, filled);
     out.write_all(filled.as_bytes())?;
+    // Kept: the host is asked for each line by its place, so the loop counts places.
     for i in 0..statements {
-        let Some(statement) = host.statement(i) else {
-            return Err(io::Error::other("a statement line is too long"));
-        };
+        let statement = host
+            .statement(i)
+            .ok_or_else(|| io::Error::other("a statement line is too long"))?;
         out.write_all(statement.as_bytes())?;
     }
     Ok(())

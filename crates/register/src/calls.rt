@@ -2,7 +2,7 @@ use book::Pass;
 use ledger::{PositionTransfer, Refusal, Trade};
 
 // The numbers of an opening.
-#[derive(Clone, Copy)]
+#[derive(Clone, Copy, Debug, PartialEq, Eq)]
 pub struct Opening {
     pub number: u32,
     pub day: u32,
@@ -11,7 +11,7 @@ pub struct Opening {
 }
 
 // A call of the input stage, with its fields.
-#[derive(Clone, Copy)]
+#[derive(Clone, Copy, Debug, PartialEq, Eq)]
 pub enum InputCall {
     AddAccount {
         participant: u32,
@@ -40,7 +40,7 @@ pub enum InputCall {
 }
 
 // A call on requests, criteria, the fixing price or collateral, in the same stage.
-#[derive(Clone, Copy)]
+#[derive(Clone, Copy, Debug, PartialEq, Eq)]
 pub enum ExerciseCall {
     RequestExercise {
         account: u32,
@@ -76,7 +76,7 @@ pub enum ExerciseCall {
 }
 
 // A call of a book that is open. A second opening is one too, and is always turned back.
-#[derive(Clone, Copy)]
+#[derive(Clone, Copy, Debug, PartialEq, Eq)]
 pub enum Call {
     Open(Opening),
     OfInput(InputCall),
