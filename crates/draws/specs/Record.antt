@@ -13,7 +13,7 @@ abbrev pub kept : Table → List Pair
 kept t = contents t.pairs
 
 -- the free places
-abbrev pub room : Table → ℕ
+unfoldable pub room : Table → ℕ
 room t = 256 - length (kept t)
 
 -- a source of which at most `most` draws can be had

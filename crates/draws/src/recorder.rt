@@ -20,6 +20,7 @@ pub struct Table {
     pairs: Few<Pair, PLACES>,
 }
 
+#[tactic(auto, unfolding(crate::specs::Record::room))]
 impl Table {
     pub fn new() -> Table
         ensures pairs { kept result ≡ [] }

@@ -3,8 +3,9 @@ use Rattle.std.specs.Prelude.{ℕ, ◌-◌, cond, List, length, take, drop, nat_
 use Rattle.few.specs.declared.Few.{Few}
 use Rattle.few.specs.declared.Full.{Full}
 
+-- the items, of which there is room for N
 abbrev pub contents : {T : Type 0} {N : ℕ} → Few T N → List T
-contents f = take f.count f.items
+contents {N} f = take N (take f.count f.items)
 
 -- a full list takes no item
 abbrev pub pushed : {T : Type 0} → ℕ → List T → Result (Unit {0}) Full

@@ -60,11 +60,12 @@ impl<T: Copy, const N: usize> Few<T, N> {
         ensures answer { result ≡ pushed N (contents self.old) }
         ensures after { contents self.new ≡ take N (contents self.old ++ (item ∷ [])) }
     {
-        if self.count == N {
+        let end = self.count;
+        if end == N {
             return Err(Full);
         }
-        self.items[self.count] = item;
-        self.count += 1;
+        self.items[end] = item;
+        self.count = end + 1;
         Ok(())
     }
 

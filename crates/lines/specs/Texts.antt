@@ -1,5 +1,6 @@
 -- What a text holds.
 use Rattle.std.specs.Prelude.{ℕ, List, take, Option, MatchOption}
+use Rattle.few.specs.Contents.{contents}
 use Rattle.lines.specs.declared.text.Text.{Text}
 
 -- a text has room for 170 bytes
@@ -7,7 +8,7 @@ abbrev pub cut : List ℕ → List ℕ
 cut xs = take 170 xs
 
 abbrev pub text_of : Text → List ℕ
-text_of t = cut (take t.len t.bytes)
+text_of t = contents t.bytes
 
 -- r is the text of the line L, and none where L holds of no text
 abbrev pub WrittenAs : Option Text → (List ℕ → Type 0) → Type 0

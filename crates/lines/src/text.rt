@@ -1,45 +1,13 @@
 // A line that is being written, in a fixed place.
-ghost use Rattle.std.specs.Prelude.{◌≡◌, [], ◌∷◌, ◌++◌, take, decimal};
+ghost use Rattle.std.specs.Prelude.{◌≡◌, [], ◌∷◌, ◌++◌, decimal};
 ghost use Rattle.lines.specs.Texts.{text_of, cut};
+
+use few::Few;
 
 // The bytes of a line of any sort: the longest, a statement line, has 170.
 #[derive(Clone, Copy)]
 pub struct Text {
-    bytes: [u8; 170],
-    len: usize,
-}
-
-// The first `len` bytes, or all where there are fewer.
-fn front(bytes: &[u8; 170], len: usize) -> &[u8]
-    ensures { result.now ≡ cut (take len bytes.now) }
-{
-    if len < 170 {
-        &bytes[0..len]
-    } else {
-        &bytes[0..170]
-    }
-}
-
-// Puts `b` behind the first `len` bytes, if there is room, and answers the new length.
-fn put(bytes: &mut [u8; 170], len: usize, b: u8) -> usize
-    ensures { cut (take result bytes.new) ≡ cut (cut (take len bytes.old) ++ (b ∷ [])) }
-{
-    if len < 170 {
-        bytes[len] = b;
-        len + 1
-    } else {
-        170
-    }
-}
-
-// Puts as much of `part` as there is room for behind the first `len` bytes, and answers the new length.
-fn put_all(bytes: &mut [u8; 170], len: usize, part: &[u8]) -> usize
-    ensures { cut (take result bytes.new) ≡ cut (cut (take len bytes.old) ++ part.now) }
-{
-    let start = len.min(170);
-    let count = part.len().min(170 - start);
-    bytes[start..start + count].copy_from_slice(&part[0..count]);
-    start + count
+    bytes: Few<u8, 170>,
 }
 
 impl Text {
@@ -47,37 +15,34 @@ impl Text {
     pub fn new() -> Text
         ensures { text_of result ≡ [] }
     {
-        Text {
-            bytes: [0; 170],
-            len: 0,
-        }
+        Text { bytes: Few::new(0) }
     }
 
     pub fn as_bytes(&self) -> &[u8]
         ensures { result.now ≡ text_of self.now }
     {
-        front(&self.bytes, self.len)
+        self.bytes.as_slice()
     }
 
     // Forgets the bytes.
     pub fn clear(&mut self)
         ensures { text_of self.new ≡ [] }
     {
-        self.len = 0;
+        self.bytes.clear();
     }
 
-    // Appends a byte.
+    // Appends a byte, if there is room.
     pub fn push(&mut self, b: u8)
         ensures { text_of self.new ≡ cut (text_of self.old ++ (b ∷ [])) }
     {
-        self.len = put(&mut self.bytes, self.len, b);
+        let _ = self.bytes.push(b);
     }
 
-    // Appends some bytes.
+    // Appends as many bytes of `part` as there is room for.
     pub fn push_all(&mut self, part: &[u8])
         ensures { text_of self.new ≡ cut (text_of self.old ++ part.now) }
     {
-        self.len = put_all(&mut self.bytes, self.len, part);
+        self.bytes.push_all(part);
     }
 
     // Appends the digits of a number.

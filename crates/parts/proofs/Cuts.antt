@@ -1,7 +1,7 @@
 -- Lists that are written up to a capacity.
-use Rattle.std.proofs.Common.{◌≡◌, ℕ, ◌+◌, ◌-◌, ◌<◌, ◌≤◌, min, Bool, true, false, List, [], ◌∷◌, ◌++◌, map, length, get_or, take, set, Decides, sym, refl, ap, ◌∙◌, subst, ⊎_elim, append_assoc, append-nil, suc-add, zero-add, arith}
+use Rattle.std.proofs.Common.{◌≡◌, ℕ, ◌+◌, ◌<◌, ◌≤◌, Bool, true, false, List, [], ◌∷◌, ◌++◌, map, length, get_or, take, Decides, sym, refl, ap, ◌∙◌, subst, ⊎_elim, append_assoc, append-nil, suc-add, zero-add, arith}
 use Rattle.std.specs.List.{flat_map, AllByRecursion}
-use Rattle.std.proofs.lemmas.List.{flat_map_more, map_push, take_all, take-take, take-append-le, take_more, take_more_set, length-append, length-take-le}
+use Rattle.std.proofs.lemmas.List.{flat_map_more, map_push, take_all, take-take, take-append-le, take_more, length-take-le}
 use Rattle.std.proofs.lemmas.Bool.{cases_lt}
 use Rattle.std.proofs.ByRecursion.{All-get_or, All-map}
 use Rattle.grammar.proofs.Maps.{all_of_map}
@@ -18,29 +18,6 @@ cut_front n xs ys =
     let k = length-take-le n xs l in
     take-append-le n (take n xs) ys (omega arith) ∙ take-take n n xs (omega arith) ∙ sym (take-append-le n xs ys l))
     (cases_lt (length xs) n)
-
-pub put_room : {X : Type 0} (n : ℕ) (xs : List X) (i : ℕ) (b : X) → length xs ≡ n → i < n → take n (take (i + 1) (set xs i b)) ≡ take n (take n (take i xs) ++ (b ∷ []))
-put_room n xs i b e l =
-    let a = length-append (take i xs) (b ∷ []) in
-    let k = length-take-le i xs (omega arith) in
-    ap (take n) (take_more_set xs i b (omega arith)) ∙ sym (cut_front n (take i xs) (b ∷ []))
-
-pub put_full : {X : Type 0} (n : ℕ) (xs : List X) (i : ℕ) (b : X) → length xs ≡ n → n ≤ i → take n (take n xs) ≡ take n (take n (take i xs) ++ (b ∷ []))
-put_full n xs i b e l = take-take n n xs (omega arith) ∙ sym (take-append-le n xs (b ∷ []) (omega arith)) ∙ ap (λ t. take n (t ++ (b ∷ []))) (sym (take_all i xs (omega arith))) ∙ sym (cut_front n (take i xs) (b ∷ []))
-
--- as much of a part as there is room for
-pub put_part : {X : Type 0} (n : ℕ) (xs part : List X) (i s m : ℕ) → length xs ≡ n → s ≡ min i n → m ≡ min (length part) (n - s) → take n (take s xs ++ take m part) ≡ take n (take n (take i xs) ++ part)
-put_part n xs part i s m e es em =
-    let a = length-take-le s xs (omega arith) in
-    let front : take s xs ≡ take i xs = ⊎_elim (λ l. ap (λ x. take x xs) (omega arith)) (λ l. take_all s xs (omega arith) ∙ sym (take_all i xs (omega arith))) (cases_lt i n) in
-    let back : take n (take s xs ++ take m part) ≡ take n (take s xs ++ part) =
-    ⊎_elim
-    (λ l. ap (λ t. take n (take s xs ++ t)) (take_all m part (omega arith)))
-    (λ l.
-    let is : n ≡ length (take s xs) + m = omega arith in
-    ap (λ x. take x (take s xs ++ take m part)) is ∙ take_past m (take s xs) (take m part) ∙ ap (λ t. take s xs ++ t) (take-take m m part (omega arith)) ∙ sym (take_past m (take s xs) part) ∙ ap (λ x. take x (take s xs ++ part)) (sym is))
-    (cases_lt (length part) (n - s)) in
-    back ∙ ap (λ t. take n (t ++ part)) front ∙ sym (cut_front n (take i xs) part)
 
 -- a list that was cut, with nothing added
 pub cut_same : {X : Type 0} (n : ℕ) (xs : List X) → take n xs ≡ take n (take n xs ++ [])
