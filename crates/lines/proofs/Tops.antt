@@ -1,12 +1,10 @@
 -- Whole lines: from a scan to what was written.
 use Rattle.std.proofs.Common.{◌≡◌, ℕ, zero, suc, ◌+◌, ◌-◌, ◌<◌, ◌≤◌, min, List, [], ◌∷◌, ◌++◌, map, length, take, drop, Some, Ok, Err, decimal, Result, MatchResult, IsErrAnd, sym, refl, ap, ◌∙◌, subst, append_assoc, append-nil, arith, Bor}
-use Rattle.std.specs.Str.Parse.{digits_value}
 use Rattle.std.specs.List.{AllByRecursion}
 use Rattle.std.proofs.lemmas.List.{take_at, take-append-drop, length-append, length-map, same_from_push}
-use Rattle.grammar.specs.declared.kinds.Row.{Row}
 use Rattle.grammar.specs.declared.kinds.Sort.{Sort}
 use Rattle.grammar.specs.declared.kinds.Sort.TheVariants.{Input, Filled}
-use Rattle.grammar.specs.Kinds.{arity, kinds, filled_kinds, kinds_of, Short, IsNumber}
+use Rattle.grammar.specs.Kinds.{arity, kinds, filled_kinds, kinds_of, Short}
 use Rattle.lines.specs.Lines.{fields_text, InputLine, FilledLine, IsInput, IsFilled, LongestStart}
 use Rattle.grammar.specs.Grammar.{Piece, Writes, shape, feed, answer, Lines, first, Stuck, StartRead, Done, AnswerRead}
 use Rattle.parts.specs.declared.line.Line.{Line}

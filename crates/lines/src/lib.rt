@@ -7,8 +7,8 @@ mod text;
 mod write;
 
 pub use grammar::{Row, find, number};
-pub use parts::{Filled, Line, Numbers};
 pub use numbers::{Number, all_below, push_numbers};
+pub use parts::{Filled, Line, Numbers};
 pub use read::{Faulty, read_filled, read_input};
 pub use text::Text;
 pub use write::{

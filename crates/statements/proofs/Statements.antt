@@ -1,7 +1,7 @@
 -- Statement lines: how long they are, read and written.
 use Rattle.std.proofs.Common.{◌≡◌, ℕ, suc, ◌-◌, ◌*◌, ◌≤◌, min, List, [], ◌∷◌, ◌++◌, length, decimal, Result, Ok, MatchResult, IsErrAnd, sym, refl, ap, ◌∙◌, subst, append-nil, arith}
 use Rattle.std.specs.List.{AllByRecursion}
-use Rattle.std.proofs.lemmas.List.{length-append, take_all}
+use Rattle.std.proofs.lemmas.List.{length-append}
 use Rattle.grammar.specs.Kinds.{Short}
 use Rattle.lines.specs.Lines.{fields_text, StatementText, IsStatement, LongestStart}
 use Rattle.grammar.specs.Grammar.{ten_numbers, Writes, shape, feed, first, Stuck, Done}
