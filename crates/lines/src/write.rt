@@ -10,7 +10,7 @@ ghost use Rattle.lines.specs.Texts.{text_of, cut, WrittenAs};
 use super::numbers::{all_below, push_numbers};
 use super::text::Text;
 use grammar::{Sort, fields_of, kinds_of, number};
-use parts::{Line, fields_into, placed};
+use parts::{Line, fields_into};
 
 // A number of an archive line has at most 8 digits.
 const LIMIT: u64 = 100_000_000;
@@ -181,6 +181,5 @@ pub fn write_filled(line: &Line<'_>, answer: Answer) -> Option<Text>
     ensures { WrittenAs result (FilledOf line.now answer.reply answer.result) }
 {
     let mut out: [&[u8]; 7] = [&[]; 7];
-    let n = fields_into(line, &mut out);
-    filled_text(line.kind(), placed(&out, n), answer)
+    filled_text(line.kind(), fields_into(line, &mut out), answer)
 }

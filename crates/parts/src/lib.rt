@@ -4,5 +4,5 @@
 mod line;
 mod numbers;
 
-pub use line::{Filled, Line, fields_into, line_of, placed};
+pub use line::{Filled, Line, fields_into, line_of};
 pub use numbers::Numbers;

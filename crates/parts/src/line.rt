@@ -100,6 +100,7 @@ pub struct Filled<'a> {
 }
 
 // The line of a known kind, with its fields from the front of `f`.
+// Kept: a kind is the number that stands in the archive's line.
 pub fn line_of<'a>(kind: u8, f: &[&'a [u8]; 7]) -> Line<'a>
     ensures { Made kind f.now result }
 {
@@ -216,27 +217,20 @@ impl Line<'_> {
     }
 }
 
-// Puts `fields` at the front of `out`, and answers how many they are.
-fn place<'a>(out: &mut [&'a [u8]; 7], fields: &[&'a [u8]]) -> usize
+// Puts `fields` at the front of `out`, and answers that part of it.
+fn place<'b, 'a>(out: &'b mut [&'a [u8]; 7], fields: &[&'a [u8]]) -> &'b [&'a [u8]]
     requires { length fields.now ≤ 7 }
-    ensures few { result ≤ 7 }
-    ensures placed { map (λ f. f.now) (take result out.new) ≡ map (λ f. f.now) fields.now }
+    ensures { result.now ≡ fields.now }
 {
-    out[0..fields.len()].copy_from_slice(fields);
-    fields.len()
+    let front = &mut out[..fields.len()];
+    front.copy_from_slice(fields);
+    front
 }
 
-// The first `n` places.
-pub fn placed<'b, 'a>(out: &'b [&'a [u8]; 7], n: usize) -> &'b [&'a [u8]]
-    ensures { result.now ≡ take n out.now }
-{
-    if n < 7 { &out[0..n] } else { &out[0..7] }
-}
-
-// Puts the fields of a line at the front of `out`, and answers how many they are.
-pub fn fields_into<'a>(line: &Line<'a>, out: &mut [&'a [u8]; 7]) -> usize
-    ensures few { result ≤ 7 }
-    ensures placed { map (λ f. f.now) (take result out.new) ≡ parts_of line.now }
+// The fields of a line, in `out`.
+pub fn fields_into<'b, 'a>(line: &Line<'a>, out: &'b mut [&'a [u8]; 7]) -> &'b [&'a [u8]]
+    ensures few { length result.now ≤ 7 }
+    ensures placed { map (λ f. f.now) result.now ≡ parts_of line.now }
 {
     match *line {
         Line::Open {
@@ -308,12 +302,12 @@ pub fn fields_into<'a>(line: &Line<'a>, out: &mut [&'a [u8]; 7]) -> usize
         Line::FixingPrice { price } => place(out, &[price]),
         Line::Lodge { account, shares } => place(out, &[account, shares]),
         Line::Withdraw { account, shares } => place(out, &[account, shares]),
-        Line::CloseTrading => 0,
-        Line::Cut => 0,
+        Line::CloseTrading => &[],
+        Line::Cut => &[],
         Line::TapeNumber { number } => place(out, &[number]),
-        Line::Assignment => 0,
-        Line::Statement => 0,
+        Line::Assignment => &[],
+        Line::Statement => &[],
         Line::NextDay { day } => place(out, &[day]),
-        Line::FaultyInput => 0,
+        Line::FaultyInput => &[],
     }
 }
