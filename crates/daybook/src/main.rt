@@ -11,6 +11,7 @@ use std::process::ExitCode;
 fn run(rt: &HostRuntime) -> io::Result<()> {
     let mut desk = Desk::new(rt.alloc(), rt.stdout())?;
     let mut buf = [0u8; 65_536];
+    // Kept: how much input comes is not known, and each loop has to end by its proof.
     for _ in 0..u64::MAX {
         let n = rt.stdin().read(&mut buf)?;
         if n == 0 {

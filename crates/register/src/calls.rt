@@ -11,6 +11,7 @@ pub struct Opening {
 }
 
 // A call of the input stage, with its fields.
+// Kept: codes stay the archive's numbers, since a number that is no code is a call to be turned back.
 #[derive(Clone, Copy, Debug, PartialEq, Eq)]
 pub enum InputCall {
     AddAccount {
