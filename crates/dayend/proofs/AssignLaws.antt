@@ -1,6 +1,6 @@
 -- The assignment of all series.
-use Rattle.std.proofs.Common.{◌≡◌, ℕ, zero, suc, ◌+◌, ◌<◌, ◌≤◌, Bool, List, [], ◌∷◌, ◌++◌, length, get_or, take, drop, set, sum_by, sym, refl, ap, ◌∙◌, subst, append_assoc, append-nil, add-one, arith, length-set}
-use Rattle.std.proofs.lemmas.List.{take_more_set, drop_more, take_all, drop_all}
+use Rattle.std.proofs.Common.{◌≡◌, ℕ, zero, suc, ◌+◌, ◌<◌, ◌≤◌, Bool, List, [], ◌∷◌, ◌++◌, length, get_or, take, drop, set, sum_by, sym, refl, ap, ◌∙◌, subst, append_assoc, add-one, arith, length-set}
+use Rattle.std.proofs.lemmas.List.{take_more_set, drop_more}
 use Rattle.std.proofs.lemmas.List.Sums.{sum_by-cons}
 use Rattle.draws.specs.Meaning.{Meaning, Below}
 use Rattle.positions.specs.declared.cell.Cell.{Cell}
@@ -14,7 +14,8 @@ use Rattle.ledger.specs.declared.state.State.{State}
 use Rattle.ledger.specs.declared.state.Stage.TheVariants.{Cut}
 use Rattle.ledger.specs.declared.state.Terms.{Terms}
 use Rattle.ledger.specs.Tables.{past_series, cells_of}
-use Rattle.dayend.specs.Assignment.{needed, expires, RowReady, RowsReady, assigned_rows}
+use Rattle.ledger.specs.Lookups.{expires}
+use Rattle.dayend.specs.Assignment.{needed, RowReady, RowsReady, assigned_rows}
 use Rattle.ledger.specs.Sound.{Facts, Waiting}
 
 -- ── a book that has been cut is ready ──
@@ -41,7 +42,7 @@ rows_ready s m f cut supplied = record {
 -- one series of those that are ready
 module _ (t : Terms) (previous day : ℕ) (m : Meaning) (collateral : List ℕ) (r : Series) (rs : List Series) (below : Below m) (ready : RowsReady t m (r ∷ rs)) where
   abbrev o : SeriesOutcome
-  o = series_outcome m r.cells collateral r.contract.right t.size t.block (expires previous day r)
+  o = series_outcome m r.cells collateral r.contract.right t.size t.block (expires r.contract previous day)
 
   here : RowReady r.cells
   here = ready.each 0 (omega arith)
@@ -61,8 +62,8 @@ module _ (t : Terms) (previous day : ℕ) (m : Meaning) (collateral : List ℕ) 
     supplied = omega (arith, supplies);
   }
 
-  pub settled_here : SeriesSettled m r.cells collateral t.block (expires previous day r) o
-  settled_here = series_settled m r.cells collateral r.contract.right t.size t.block (expires previous day r) below assignable
+  pub settled_here : SeriesSettled m r.cells collateral t.block (expires r.contract previous day) o
+  settled_here = series_settled m r.cells collateral r.contract.right t.size t.block (expires r.contract previous day) below assignable
 
   pub ready_then : RowsReady t o.source rs
   ready_then = record {
@@ -93,17 +94,6 @@ pub record Going (t : Terms) (previous day : ℕ) (m₀ : Meaning) (c₀ : List 
   pub source_then : (assigned_rows t previous day m c (drop i rows₀)).source ≡ (assigned_rows t previous day m₀ c₀ rows₀).source
 
 module _ (t : Terms) (previous day : ℕ) (m₀ : Meaning) (c₀ : List ℕ) (rows₀ : List Series) where
-  pub going_none : RowsReady t m₀ rows₀ → Going t previous day m₀ c₀ rows₀ m₀ c₀ rows₀ 0
-  going_none ready = record { size = refl; rest = refl; ready = ready; rows_so_far = refl; collateral_then = refl; source_then = refl }
-
-  pub going_all : (m : Meaning) (c : List ℕ) (rows : List Series) (i : ℕ) → Going t previous day m₀ c₀ rows₀ m c rows i → length rows₀ ≤ i
-      → (rows ≡ (assigned_rows t previous day m₀ c₀ rows₀).rows) × (c ≡ (assigned_rows t previous day m₀ c₀ rows₀).collateral) × (m ≡ (assigned_rows t previous day m₀ c₀ rows₀).source)
-  going_all m c rows i w h =
-      let none : drop i rows₀ ≡ [] = drop_all i rows₀ h in
-      let all : take i rows ≡ rows = take_all i rows (omega (arith, w.size)) in
-      let a = rw (none, all) at w.rows_so_far in
-      (sym (append-nil rows) ∙ a, rw none at w.collateral_then, rw none at w.source_then)
-
   -- one series more
   module _ (m : Meaning) (c : List ℕ) (rows : List Series) (i : ℕ) (below : Below m) (w : Going t previous day m₀ c₀ rows₀ m c rows i) (lt : i < length rows₀) where
     abbrev r : Series
@@ -124,7 +114,7 @@ module _ (t : Terms) (previous day : ℕ) (m₀ : Meaning) (c₀ : List ℕ) (ro
     next_assignable = assignable t previous day m c r (drop (i + 1) rows₀) below here_ready
 
     abbrev out : SeriesOutcome
-    out = series_outcome m r.cells c r.contract.right t.size t.block (expires previous day r)
+    out = series_outcome m r.cells c r.contract.right t.size t.block (expires r.contract previous day)
 
     pub going_more : Going t previous day m₀ c₀ rows₀ out.source out.collateral (set rows i (record { contract = r.contract; cells = out.cells })) (i + 1)
     going_more =
@@ -148,7 +138,7 @@ module _ (t : Terms) (previous day : ℕ) (m₀ : Meaning) (c₀ : List ℕ) (ro
             cc e
 
     -- as the code has it
-    pub going_next : (lapses : Bool) (m' : Meaning) (c' : List ℕ) (cells : List Cell) → lapses ≡ expires previous day r
+    pub going_next : (lapses : Bool) (m' : Meaning) (c' : List ℕ) (cells : List Cell) → lapses ≡ expires r.contract previous day
         → m' ≡ (series_outcome m r.cells c r.contract.right t.size t.block lapses).source
         → c' ≡ (series_outcome m r.cells c r.contract.right t.size t.block lapses).collateral
         → cells ≡ (series_outcome m r.cells c r.contract.right t.size t.block lapses).cells

@@ -15,8 +15,9 @@ use Rattle.ledger.specs.declared.state.State.{State}
 use Rattle.ledger.specs.declared.state.Stage.TheVariants.{Cut, Assigned}
 use Rattle.ledger.specs.declared.state.Terms.{Terms}
 use Rattle.ledger.specs.Tables.{past_series, no_account, row, cells_of}
+use Rattle.ledger.specs.Lookups.{expires}
 use Rattle.exercise.specs.Criteria.{with_collateral}
-use Rattle.dayend.specs.Assignment.{needed, expires, RowsReady, assigned_rows, lodged_shares, assigning, assigned_state}
+use Rattle.dayend.specs.Assignment.{needed, RowsReady, assigned_rows, lodged_shares, assigning, assigned_state}
 use Rattle.ledger.specs.Sound.{Facts, Balanced, Waiting}
 use Rattle.dayend.proofs.AssignLaws.{settled_here, ready_then, rows_ready}
 
@@ -28,11 +29,11 @@ pub record RowSettled (t : Terms) (previous day : ℕ) (r r' : Series) : Type 0 
   pub collateral : List ℕ
   pub out : SeriesOutcome
   pub is : r' ≡ record { contract = r.contract; cells = out.cells }
-  pub settled : SeriesSettled meaning r.cells collateral t.block (expires previous day r) out
+  pub settled : SeriesSettled meaning r.cells collateral t.block (expires r.contract previous day) out
 
 module _ (t : Terms) (previous day : ℕ) where
   abbrev outcome_of : Meaning → List ℕ → Series → SeriesOutcome
-  outcome_of m c r = series_outcome m r.cells c r.contract.right t.size t.block (expires previous day r)
+  outcome_of m c r = series_outcome m r.cells c r.contract.right t.size t.block (expires r.contract previous day)
 
   pub row_settled : (rows : List Series) (m : Meaning) (c : List ℕ) → Below m → RowsReady t m rows → (i : ℕ) → i < length rows → RowSettled t previous day (get_or rows i past_series) (get_or (assigned_rows t previous day m c rows).rows i past_series)
   row_settled [] m c b w i lt = absurd (omega arith)

@@ -13,8 +13,7 @@ use Rattle.positions.specs.Places.{each_from, each}
 use Rattle.ledger.specs.declared.state.Series.{Series}
 use Rattle.ledger.specs.declared.state.State.{State}
 use Rattle.ledger.specs.Tables.{past_series, no_account, account_of}
-use Rattle.ledger.specs.Lookups.{expiring}
-use Rattle.dayend.specs.Assignment.{expires}
+use Rattle.ledger.specs.Lookups.{expires, expiring}
 use Rattle.dayend.specs.Cutoff.{any_expiring, asked, automatic, cut_by, cut_cells}
 
 -- ── a series that expires today ──
@@ -32,10 +31,10 @@ module _ (s : State) where
   expiring_hit n i l h = hit n i l (subst (λ (k : ℕ). expiring s k ≡ true) (add-one i) h)
 
   -- the same, row by row
-  pub any_row : (n : ℕ) → n ≤ length s.series.rows → list_any (expires s.previous s.day) (take n s.series.rows) ≡ any_expiring s n
+  pub any_row : (n : ℕ) → n ≤ length s.series.rows → list_any (λ (r : Series). expires r.contract s.previous s.day) (take n s.series.rows) ≡ any_expiring s n
   any_row zero h = refl
   any_row (suc n) h =
-      let today : Series → Bool = expires s.previous s.day in
+      let today : Series → Bool = λ r. expires r.contract s.previous s.day in
       let k : n ≡ suc n - 1 = omega arith in
       let here : list_any today (get_or s.series.rows n past_series ∷ []) ≡ expiring s (suc n) =
       or_comm (today (get_or s.series.rows n past_series)) false ∙ ap (λ (j : ℕ). today (get_or s.series.rows j past_series)) k in

@@ -1,5 +1,5 @@
 -- The assignment: the series in rising number, each with what the earlier ones left of the source and of the collateral.
-use Rattle.std.specs.Prelude.{◌≡◌, ℕ, ◌<◌, ◌≤◌, Bool, ◌&&◌, List, [], ◌∷◌, map, length, get_or, sum_by, nat_le, nat_lt, slice_index, slice_index_or}
+use Rattle.std.specs.Prelude.{◌≡◌, ℕ, ◌<◌, ◌≤◌, Bool, List, [], ◌∷◌, map, length, get_or, sum_by, nat_le, slice_index, slice_index_or}
 use Rattle.std.specs.List.{range_with_len}
 use Rattle.draws.specs.Meaning.{Meaning}
 use Rattle.positions.specs.declared.cell.Cell.{Cell}
@@ -14,6 +14,7 @@ use Rattle.ledger.specs.declared.state.Stage.TheVariants.{Assigned}
 use Rattle.ledger.specs.declared.state.State.{State}
 use Rattle.ledger.specs.declared.state.Terms.{Terms}
 use Rattle.ledger.specs.Tables.{no_account, past_series}
+use Rattle.ledger.specs.Lookups.{expires}
 use Rattle.exercise.specs.Criteria.{with_collateral}
 
 -- the draws needed: each series' contracts due over the block, rounded up, all summed
@@ -22,10 +23,6 @@ needed s = sum_by (λ r. draws_for r.cells s.terms.block) s.series.rows
 
 abbrev pub assignment_checks : State → Meaning → List (Bool × Refusal)
 assignment_checks s m = (nat_le (needed s) m.supply, DrawsShort (needed s)) ∷ []
-
--- whether a series expires between two book days, the later one included
-abbrev pub expires : ℕ → ℕ → Series → Bool
-expires previous day r = nat_lt previous r.contract.expiry && nat_le r.contract.expiry day
 
 -- what the assignment of a series may rest on: a cell for each of 32 accounts, as many longs as shorts, at most 100,000,
 -- and no more due than an account has
@@ -51,9 +48,9 @@ pub record Assigning : Type 0 where
 abbrev pub assigned_rows : Terms → ℕ → ℕ → Meaning → List ℕ → List Series → Assigning
 assigned_rows t previous day m collateral [] = record { rows = []; collateral = collateral; source = m }
 assigned_rows t previous day m collateral (r ∷ rs) =
-    let o = series_outcome m r.cells collateral r.contract.right t.size t.block (expires previous day r) in
+    let o = series_outcome m r.cells collateral r.contract.right t.size t.block (expires r.contract previous day) in
     let rest = assigned_rows t previous day o.source o.collateral rs in
-    record { rows = record { contract = r.contract; cells = o.cells } ∷ rest.rows; collateral = rest.collateral; source = rest.source }
+    record rest { rows = record r { cells = o.cells } ∷ rest.rows }
 
 abbrev pub lodged_shares : List Account → List ℕ
 lodged_shares accounts = map (λ a. a.collateral) accounts
@@ -65,16 +62,8 @@ abbrev pub assigning : State → Meaning → Assigning
 assigning s m = assigned_rows s.terms s.previous s.day m (lodged_shares s.accounts.rows) s.series.rows
 
 abbrev pub assigned_state : State → Meaning → State
-assigned_state s m = record {
-  terms = s.terms;
-  day = s.day;
-  previous = s.previous;
+assigned_state s m = record s {
   stage = Assigned;
-  trading = s.trading;
-  fixing = s.fixing;
-  house = s.house;
-  accounts = record { rows = with_shares s.accounts.rows (assigning s m).collateral; count = s.accounts.count };
-  series = record { rows = (assigning s m).rows; count = s.series.count };
-  legs = s.legs;
-  requests = s.requests;
+  accounts = record s.accounts { rows = with_shares s.accounts.rows (assigning s m).collateral };
+  series = record s.series { rows = (assigning s m).rows };
 }

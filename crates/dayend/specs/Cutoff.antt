@@ -65,23 +65,15 @@ cut_cells s i cells = each (λ at c. cut_cell s i (at + 1) c) cells
 
 -- the series at a place
 abbrev pub cut_series : State → ℕ → Series → Series
-cut_series s at r = record { contract = r.contract; cells = cut_cells s (at + 1) r.cells }
+cut_series s at r = record r { cells = cut_cells s (at + 1) r.cells }
 
 -- held legs become free
 abbrev pub cut_legs : List Leg → List Leg
 cut_legs rows = each (λ _ l. stepped l event.Cut) rows
 
 abbrev pub cut : State → State
-cut s = record {
-  terms = s.terms;
-  day = s.day;
-  previous = s.previous;
+cut s = record s {
   stage = stage.Cut;
-  trading = s.trading;
-  fixing = s.fixing;
-  house = s.house;
-  accounts = s.accounts;
-  series = record { rows = each (cut_series s) s.series.rows; count = s.series.count };
-  legs = record { rows = cut_legs s.legs.rows; count = s.legs.count };
-  requests = s.requests;
+  series = record s.series { rows = each (cut_series s) s.series.rows };
+  legs = record s.legs { rows = cut_legs s.legs.rows };
 }

@@ -1,5 +1,5 @@
 -- The next day.
-use Rattle.std.specs.Prelude.{ℕ, Bool, true, List, [], ◌∷◌, replicate, None, nat_lt}
+use Rattle.std.specs.Prelude.{ℕ, Bool, true, List, [], ◌∷◌, None, nat_lt}
 use Rattle.positions.specs.declared.cell.Cell.{Cell}
 use Rattle.positions.specs.Cells.{carried}
 use Rattle.positions.specs.Legs.{no_leg}
@@ -9,7 +9,7 @@ use Rattle.ledger.specs.declared.refusal.Refusal.TheVariants.{OutOfRange, DayNot
 use Rattle.ledger.specs.declared.state.Series.{Series}
 use Rattle.ledger.specs.declared.state.Stage.TheVariants.{Input}
 use Rattle.ledger.specs.declared.state.State.{State}
-use Rattle.ledger.specs.Tables.{no_request}
+use Rattle.ledger.specs.Tables.{no_request, empty_table}
 use Rattle.ledger.specs.Lookups.{within}
 
 abbrev pub next_day_checks : State → ℕ → List (Bool × Refusal)
@@ -22,20 +22,17 @@ abbrev pub carried_cells : List Cell → List Cell
 carried_cells cells = each (λ _ c. carried c) cells
 
 abbrev pub carried_series : Series → Series
-carried_series r = record { contract = r.contract; cells = carried_cells r.cells }
+carried_series r = record r { cells = carried_cells r.cells }
 
 -- positions, accounts and series are carried over; trading, legs and requests start anew
 abbrev pub next_day : State → ℕ → State
-next_day s day = record {
-  terms = s.terms;
+next_day s day = record s {
   day = day;
   previous = s.day;
   stage = Input;
   trading = true;
   fixing = None;
-  house = s.house;
-  accounts = s.accounts;
-  series = record { rows = each (λ _ r. carried_series r) s.series.rows; count = s.series.count };
-  legs = record { rows = replicate 256 no_leg; count = 0 };
-  requests = record { rows = replicate 128 no_request; count = 0 };
+  series = record s.series { rows = each (λ _ r. carried_series r) s.series.rows };
+  legs = empty_table 256 no_leg;
+  requests = empty_table 128 no_request;
 }

@@ -1,22 +1,12 @@
-ghost use Rattle.std.specs.Prelude.{◌≡◌, ℕ, ◌<◌, ◌≤◌, length, sum_by, slice_index_or};
+ghost use Rattle.std.specs.Prelude.{◌≡◌, ◌≤◌};
 ghost use Rattle.draws.specs.Checks.{checked};
-ghost use Rattle.settlement.specs.Assignment.{total_due, draws_for};
 ghost use Rattle.ledger.specs.declared.state.Stage.TheVariants.{Cut};
-ghost use Rattle.ledger.specs.Tables.{past_series};
-ghost use Rattle.exercise.specs.Criteria.{with_collateral};
-ghost use Rattle.dayend.specs.Assignment.{needed, assignment_checks, expires, RowsReady, assigned_rows, lodged_shares, with_shares, assigning, assigned_state};
+ghost use Rattle.dayend.specs.Assignment.{needed, assignment_checks, RowsReady, assigned_rows, lodged_shares, with_shares, assigning, assigned_state};
 
 use draws::Draws;
-use ledger::{Account, Ledger, Refusal, Series, Stage, Terms};
+use ledger::{Account, Ledger, Refusal, Series, Stage, State, Terms};
 use settlement::{AssignmentTerms, assign_series, draws_for_series};
 use std::array;
-
-// Whether the series expires on the day.
-pub(crate) fn expires(row: &Series, previous: u32, day: u32) -> bool
-    ensures { result ≡ expires previous day row.now }
-{
-    previous < row.contract.expiry && row.contract.expiry <= day
-}
 
 // Assigns each series in rising number.
 fn assign_rows<S: Draws>(
@@ -33,12 +23,11 @@ fn assign_rows<S: Draws>(
     ensures source { S.meaning source.new ≡ (assigned_rows terms.now previous day (S.meaning source.old) collateral.old rows.old).source }
 {
     for row in rows.iter_mut() {
-        let lapses = expires(row, previous, day);
         let terms = AssignmentTerms {
             right: row.contract.right,
             size: terms.size,
             block: terms.block,
-            lapses,
+            lapses: row.contract.expires(previous, day),
         };
         assign_series(source, &mut row.cells, collateral, &terms);
     }
@@ -55,6 +44,7 @@ fn lodged_shares(accounts: &[Account; 32]) -> [u32; 32]
 fn put_collateral(accounts: &mut [Account; 32], shares: &[u32; 32])
     ensures { accounts.new ≡ with_shares accounts.old shares.now }
 {
+    // Kept: an index, since a proof learns nothing of what a zip with `iter_mut` writes.
     for (i, account) in accounts.iter_mut().enumerate() {
         account.collateral = shares[i];
     }
@@ -94,14 +84,20 @@ pub fn assign<S: Draws>(book: &mut Ledger, source: &mut S) -> u32
 {
     let used = needed(book);
     let mut shares = lodged_shares(&book.state.accounts.rows);
-    let terms = book.state.terms;
+    let State {
+        terms,
+        day,
+        previous,
+        series,
+        ..
+    } = &mut book.state;
     assign_rows(
         source,
-        &mut book.state.series.rows,
+        &mut series.rows,
         &mut shares,
-        &terms,
-        book.state.previous,
-        book.state.day,
+        terms,
+        *previous,
+        *day,
     );
     put_collateral(&mut book.state.accounts.rows, &shares);
     book.state.stage = Stage::Assigned;

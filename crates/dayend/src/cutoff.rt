@@ -1,11 +1,10 @@
 ghost use Rattle.std.specs.Prelude.{◌≡◌, ℕ, false, [], ◌+◌, ◌<◌, ◌≤◌, length, slice_index, slice_index_or};
 ghost use Rattle.draws.specs.Checks.{checked};
 ghost use Rattle.positions.specs.Places.{each};
-ghost use Rattle.ledger.specs.Tables.{no_request, with_listing};
+ghost use Rattle.ledger.specs.Tables.{RowNumber, no_request, with_listing};
 ghost use Rattle.dayend.specs.Cutoff.{any_expiring, cut_checks, asks, asked, AsksAt, automatic, cut_by, cut_series, cut_legs, cut};
 ghost use Rattle.ledger.specs.Sound.{Facts};
 
-use crate::assignment::expires;
 use exercise::criterion;
 use ledger::{Account, Contract, Ledger, Refusal, Request, Requests, Series, Stage, State};
 use positions::{Cell, Leg, LegEvent};
@@ -33,7 +32,6 @@ fn note(wanted: &mut [u32; 32], request: &Request, series: u32)
 // What all requests ask of each account in the series.
 fn asked_in(requests: &Requests, series: u32) -> [u32; 32]
     requires count { requests.now.count ≤ 128 }
-    requires size { length requests.now.rows ≡ 128 }
     requires small { (k : ℕ) → (slice_index_or requests.now.rows k no_request).quantity ≤ 100_000 }
     ensures { (a : ℕ) → a < 32 → slice_index result a ≡ asked requests.now (a + 1) series }
 {
@@ -51,7 +49,7 @@ fn any_expiring(book: &Ledger) -> bool
     let state = &book.state;
     state.series.rows[..state.series.count as usize]
         .iter()
-        .any(|row| expires(row, state.previous, state.day))
+        .any(|row| row.contract.expires(state.previous, state.day))
 }
 
 // Why the cut is turned back, if it is.
@@ -66,10 +64,10 @@ pub fn check_cut(book: &Ledger) -> Result<(), Refusal>
 
 // Whether each account's longs in the series are exercised without a request.
 fn automatic_in(book: &State, series: u32) -> [bool; 32]
-    requires { (1 ≤ series) × (series ≤ 32) }
+    requires { RowNumber 32 series }
     ensures { (a : ℕ) → a < 32 → slice_index_or result a false ≡ automatic book.now (a + 1) series }
 {
-    let Contract { right, strike, .. } = book.series.rows[series as usize - 1].contract;
+    let Contract { right, strike, .. } = book.series.row(series).contract;
     let price = book.fixing.filter(|_| book.expiring(series));
     array::from_fn(|a| {
         price.is_some_and(|price| criterion(book, a as u32 + 1, right).meets(right, strike, price))
@@ -110,7 +108,7 @@ fn cut_cells(
 // The series after the cut, each by its place.
 fn cut_rows(book: &mut State)
     requires { Facts book.old }
-    ensures { book.new ≡ with_listing book.old (record { rows = each (cut_series book.old) book.old.series.rows; count = book.old.series.count }) }
+    ensures { book.new ≡ with_listing book.old (record book.old.series { rows = each (cut_series book.old) book.old.series.rows }) }
 {
     let automatic = automatic(book);
     let State {
@@ -119,6 +117,7 @@ fn cut_rows(book: &mut State)
         requests,
         ..
     } = book;
+    // Kept: an index, as in `cut_cells`.
     for (i, row) in series.rows.iter_mut().enumerate() {
         let wanted = asked_in(requests, i as u32 + 1);
         cut_cells(&mut row.cells, &accounts.rows, &wanted, &automatic[i]);

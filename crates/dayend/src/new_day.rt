@@ -3,7 +3,7 @@ ghost use Rattle.draws.specs.Checks.{checked};
 ghost use Rattle.positions.specs.Places.{each};
 ghost use Rattle.dayend.specs.NextDay.{next_day_checks, carried_cells, carried_series, next_day};
 
-use ledger::{Legs, Refusal, Request, Requests, Series, Stage, State, is_within};
+use ledger::{Refusal, Request, Series, Stage, State, Table, is_within};
 use positions::{Cell, Leg};
 
 // The cells of one series.
@@ -46,17 +46,6 @@ pub fn next_day(book: &mut State, day: u32)
     book.trading = true;
     book.fixing = None;
     carry_rows(&mut book.series.rows);
-    book.legs = Legs {
-        rows: [Leg::empty(); 256],
-        count: 0,
-    };
-    book.requests = Requests {
-        rows: [Request {
-            account: 0,
-            series: 0,
-            quantity: 0,
-            pending: false,
-        }; 128],
-        count: 0,
-    };
+    book.legs = Table::empty(Leg::empty());
+    book.requests = Table::empty(Request::default());
 }

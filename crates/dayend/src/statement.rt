@@ -1,9 +1,7 @@
-ghost use Rattle.std.specs.Prelude.{◌≡◌, ℕ, ◌+◌, ◌<◌, ◌≤◌, length, get_or, slice_index_or};
+ghost use Rattle.std.specs.Prelude.{◌≡◌, ◌+◌, ◌≤◌, length};
 ghost use Rattle.draws.specs.Checks.{checked};
-ghost use Rattle.positions.specs.Cells.{no_cell};
-ghost use Rattle.settlement.specs.Lines.{Countable, written};
-ghost use Rattle.ledger.specs.Tables.{past_series};
-ghost use Rattle.dayend.specs.Statement.{first_lines, statement_lines, rows_needed, places_needed, statement_checks};
+ghost use Rattle.settlement.specs.Lines.{written};
+ghost use Rattle.dayend.specs.Statement.{statement_lines, places_needed, statement_checks};
 
 use ledger::{Ledger, Refusal, Series};
 use settlement::{Line, SeriesTerms, count_series, write_series};

@@ -3,13 +3,12 @@ use Rattle.std.proofs.Common.{◌≡◌, ℕ, zero, suc, ◌+◌, ◌-◌, ◌*�
 use Rattle.std.specs.List.{range_with_len, flat_map}
 use Rattle.std.proofs.lemmas.List.{flat_map_more, map-id, take_all}
 use Rattle.std.proofs.lemmas.List.Sums.{sum_by-cons, sum_by_more, sum_by-take-le}
-use Rattle.std.proofs.lemmas.Bool.{cond-true, eq-eqb}
 use Rattle.std.proofs.lemmas.List.FromFn.{map-range_with_len_more}
 use Rattle.positions.specs.declared.cell.Cell.{Cell}
 use Rattle.positions.specs.Cells.{no_cell}
 use Rattle.settlement.specs.declared.line.Line.{Line}
 use Rattle.settlement.specs.declared.line.SeriesTerms.{SeriesTerms}
-use Rattle.settlement.specs.Lines.{exercised_line, covered_line, uncovered_line, if_any, cell_lines, lines_of_first, series_lines, one_if_any, line_count, lines_needed, Countable}
+use Rattle.settlement.specs.Lines.{exercised_line, covered_line, uncovered_line, if_any, cell_lines, lines_of_first, series_lines, one_if_any, line_count, lines_needed}
 
 one_or_none : {X : Type 0} (b : Bool) (x : X) → length (cond b [] (x ∷ [])) ≡ cond b 0 1
 one_or_none true x = refl
@@ -32,17 +31,7 @@ lines_needed_le (c ∷ cs) = omega (arith, sum_by-cons line_count c cs, line_cou
 counting_more : (n : ℕ) → range_with_len 0 (n + 1) ≡ range_with_len 0 n ++ n ∷ []
 counting_more n = sym (map-id (range_with_len 0 (n + 1))) ∙ map-range_with_len_more (λ x. x) 0 n n (omega arith) ∙ ap (λ l. l ++ n ∷ []) (map-id (range_with_len 0 n))
 
-any_none : (l : Line) → l.contracts ≡ 0 → if_any l ≡ []
-any_none l z = cond-true (eqb l.contracts 0) [] (l ∷ []) (eq-eqb l.contracts 0 z)
-
 module _ (t : SeriesTerms) where
-  -- an account with neither exercised nor assigned contracts has no lines
-  pub no_lines : (account : ℕ) (c : Cell) → Countable c → c.exercised ≡ 0 → c.assigned ≡ 0 → cell_lines t account c ≡ []
-  no_lines account c k e a =
-      let covered : c.covered ≡ 0 = omega (arith, k.covered, a) in
-      let uncovered : c.assigned - c.covered ≡ 0 = omega (arith, a) in
-      rw (any_none (exercised_line t account c) e, any_none (covered_line t account c) covered, any_none (uncovered_line t account c) uncovered) refl
-
   pub length_cell : (account : ℕ) (c : Cell) → length (cell_lines t account c) ≡ line_count c
   length_cell account c =
       let e = exercised_line t account c in

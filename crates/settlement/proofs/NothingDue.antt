@@ -39,10 +39,11 @@ module _ (m : Meaning) (cells : List Cell) (collateral : List ℕ) (right : Righ
       let e = total_due cells in
       subst (λ (q : ℕ). get_or (map (assigned_to q m block e shorts) (range_with_len 0 (length shorts))) j 0 ≡ 0) (sym no_draws) (zeros (assigned_to 0 m block e shorts) (λ i. refl) (range_with_len 0 (length shorts)) j)
 
-  pub none_cells : map (λ k. at_end lapses (settled (get_or cells k no_cell) 0 0)) (range_with_len 0 (length cells)) ≡ (series_outcome m cells collateral right size block lapses).cells
+  pub none_cells : map (λ (c : Cell). at_end lapses (settled c 0 0)) cells ≡ (series_outcome m cells collateral right size block lapses).cells
   none_cells =
       let xs = assigned_in m cells block in
-      same_map (λ k. at_end lapses (settled (get_or cells k no_cell) 0 0)) (cell_after right size lapses cells collateral xs)
+      sym (map_places (λ (c : Cell). at_end lapses (settled c 0 0)) cells no_cell no_cell)
+      ∙ same_map (λ k. at_end lapses (settled (get_or cells k no_cell) 0 0)) (cell_after right size lapses cells collateral xs)
       (λ k.
       let z = none_assigned k in
       ap (λ (n : ℕ). at_end lapses (settled (get_or cells k no_cell) n 0)) (sym z)

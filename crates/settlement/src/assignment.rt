@@ -77,7 +77,7 @@ fn settle_all(
 // Settles each account's cell in a series where nothing is exercised.
 fn settle_none(cells: &mut [Cell; 32], lapses: bool)
     requires { (j : ℕ) → (get_or cells.old j no_cell).due ≤ (get_or cells.old j no_cell).longs }
-    ensures { cells.new ≡ map (λ k. at_end lapses (settled (slice_index_or cells.old k no_cell) 0 0)) (range_with_len 0 (length cells.old)) }
+    ensures { cells.new ≡ map (λ c. at_end lapses (settled c 0 0)) cells.old }
 {
     for cell in cells.iter_mut() {
         *cell = end_day(cell, 0, 0, lapses);

@@ -33,6 +33,7 @@ pub struct Line {
 }
 
 // What the lines of one series share.
+// Kept: functions ask that the size is at most 10,000, since the laws and the statement's definitions take any size.
 #[derive(Clone, Copy, Debug, PartialEq, Eq)]
 pub struct SeriesTerms {
     pub series: u32,
@@ -85,11 +86,10 @@ impl SeriesTerms {
     }
 
     // The shares of so many contracts.
-    fn shares(&self, contracts: u32) -> u32
-        requires { (contracts ≤ 100_000) × (self.now.size ≤ 10_000) }
+    fn shares(&self, contracts: u32) -> u64
         ensures { result ≡ contracts * self.now.size }
     {
-        contracts * self.size
+        u64::from(contracts) * u64::from(self.size)
     }
 
     // The line of so many contracts of an account in that role.
@@ -97,7 +97,7 @@ impl SeriesTerms {
         requires { (contracts ≤ 100_000) × (self.now.size ≤ 10_000) }
         ensures { result ≡ line self.now account role method contracts }
     {
-        let shares = u64::from(self.shares(contracts));
+        let shares = self.shares(contracts);
         let money = shares * u64::from(self.strike);
         let mut line = Line {
             series: self.series,

@@ -1,14 +1,8 @@
 use Rattle.std.proofs.Common.{rules}
 use Rattle.ledger.proofs.FactLaws.{facts, sound_at}
 use Rattle.dayend.specs.Assignment.{assigned_state}
-use Rattle.dayend.proofs.AssignLaws.{rows_ready}
 use Rattle.dayend.proofs.AssignedLaws.{facts_assigned}
 use Rattle.dayend.proofs.assignment.assign.Goals as goal
-
-pub assign_rows-requires : goal.assign_rows-requires
-assign_rows-requires g c =
-    let s = c.args.book.now.state in
-    rows_ready s (g.S.Draws.meaning c.args.source.now) (facts s c.args.book.now.sound) c.requires.cut c.requires.supplied
 
 pub invariant_of-book : goal.invariant_of-book
 invariant_of-book g c =

@@ -1,9 +1,6 @@
 use Rattle.std.proofs.Common.{arith}
-use Rattle.dayend.proofs.AssignLaws.{going_none, going_all, going_next, next_assignable}
+use Rattle.dayend.proofs.AssignLaws.{going_next, next_assignable}
 use Rattle.dayend.proofs.assignment.assign_rows.Goals as goal
-
-pub loop-row-init : goal.loop-row-init
-loop-row-init g c = going_none _ _ _ _ _ _ c.requires
 
 pub assign_series-requires : goal.assign_series-requires
 assign_series-requires g c = next_assignable _ _ _ _ _ _ _ _ _ c.loop-row.row-index (g.S.Draws.below c.loop-row.source) c.loop-row.invariant (omega (arith, c.told-rows))
@@ -11,9 +8,4 @@ assign_series-requires g c = next_assignable _ _ _ _ _ _ _ _ _ c.loop-row.row-in
 pub loop-row-preserved : goal.loop-row-preserved
 loop-row-preserved g c =
     let a = c.assign_series.ensures in
-    going_next _ _ _ _ _ _ _ _ _ c.loop-row.row-index (g.S.Draws.below c.loop-row.source) c.loop-row.invariant (omega (arith, c.told-rows)) c.expires-lapses.result _ _ _ c.expires-lapses.ensures a.source a.collateral a.cells
-
-pub returns : goal.returns
-returns g c =
-    let a = going_all _ _ _ _ _ _ _ _ _ c.loop-row.row-index c.loop-row.invariant (omega (arith, c.told-rows)) in
-    record { rows = a.0; collateral = a.1; source = a.2 }
+    going_next _ _ _ _ _ _ _ _ _ c.loop-row.row-index (g.S.Draws.below c.loop-row.source) c.loop-row.invariant (omega (arith, c.told-rows)) c.expires.result _ _ _ c.expires.ensures a.source a.collateral a.cells

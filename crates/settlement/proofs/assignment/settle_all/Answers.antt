@@ -1,25 +1,11 @@
-use Rattle.std.proofs.Common.{◌≡◌, ℕ, ◌-◌, ◌*◌, ◌≤◌, map, length, get_or, sym, ap, ◌∙◌, subst, arith}
+use Rattle.std.proofs.Common.{◌≡◌, ℕ, ◌-◌, ◌*◌, map, length, get_or, ap, ◌∙◌, arith}
 use Rattle.std.specs.List.{range_with_len}
 use Rattle.positions.specs.declared.cell.Cell.{Cell}
 use Rattle.positions.specs.Cells.{no_cell}
 use Rattle.settlement.specs.Account.{covering, settled, at_end}
 use Rattle.settlement.specs.Assignment.{collateral_after}
-use Rattle.settlement.proofs.Filling.{filled_none, filled_more, filled_all}
-use Rattle.settlement.proofs.AssignmentLaws.{covering_delivers}
+use Rattle.settlement.proofs.Filling.{filled_more, filled_all}
 use Rattle.settlement.proofs.assignment.settle_all.Goals as goal
-
-pub loop-i-init : goal.loop-i-init
-loop-i-init c = (filled_none _ _ _, filled_none _ _ _)
-
-pub end_day-requires : goal.end_day-requires
-end_day-requires c =
-    let i = c.loop-i.i in
-    subst (λ (x : Cell). (x.due ≤ x.longs) × (get_or c.args.assigned.now i 0 ≤ x.shorts)) (sym (c.loop-i.invariant.0.rest i (omega arith))) (c.requires.held i, c.requires.within i)
-
-pub shares_left-requires : goal.shares_left-requires
-shares_left-requires c =
-    let i = c.loop-i.i in
-    subst (λ (v : ℕ). v * c.args.terms.now.size ≤ get_or c.loop-i.collateral i 0) (sym c.covered_by-covered.ensures) (covering_delivers c.args.terms.now.right c.args.terms.now.size (get_or c.loop-i.collateral i 0) (get_or c.args.assigned.now i 0))
 
 pub loop-i-preserved : goal.loop-i-preserved
 loop-i-preserved c =
@@ -36,11 +22,11 @@ loop-i-preserved c =
           (c.shares_left.ensures ∙ ap (λ (s : ℕ). s - c.covered_by-covered.result * c.args.terms.now.size) shares ∙ ap (λ (v : ℕ). get_or c.args.collateral.now i 0 - v * c.args.terms.now.size) covered),
     )
 
-pub returns : goal.returns
-returns c =
+pub returns-clause-cells : goal.returns-clause-cells
+returns-clause-cells c = filled_all _ _ _ c.loop-i.cells c.loop-i.i c.loop-i.invariant.0 (omega (arith, c.told-cells))
+
+pub returns-clause-collateral : goal.returns-clause-collateral
+returns-clause-collateral c =
     let f : ℕ → ℕ = collateral_after c.args.terms.now.right c.args.terms.now.size c.args.collateral.now c.args.assigned.now in
     let same : length c.args.collateral.now ≡ length c.args.cells.now = omega (arith, c.told-collateral, c.told-cells) in
-    record {
-      cells = filled_all _ _ _ c.loop-i.cells c.loop-i.i c.loop-i.invariant.0 (omega (arith, c.told-cells));
-      collateral = filled_all _ _ _ c.loop-i.collateral c.loop-i.i c.loop-i.invariant.1 (omega (arith, c.told-collateral)) ∙ ap (λ n. map f (range_with_len 0 n)) same;
-    }
+    filled_all _ _ _ c.loop-i.collateral c.loop-i.i c.loop-i.invariant.1 (omega (arith, c.told-collateral)) ∙ ap (λ n. map f (range_with_len 0 n)) same
