@@ -143,9 +143,9 @@ fn assign<S: Draws>(
     while left > 0 {
         let start = draw_start(source, remaining);
         let count = block.min(left);
-        take_stretch(shorts, start, count, assigned);
         remaining -= count;
         left -= count;
+        take_stretch(shorts, start, count, assigned);
     }
 }
 

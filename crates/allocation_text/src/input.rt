@@ -1,5 +1,5 @@
 // The text of one allocation: the lines shorts, exercised, block and tape, in this order.
-ghost use Rattle.std.specs.Prelude.{◌≡◌, ◌≤◌, false, length, IfSome, IfOk, vec_len, MatchResult, ◌≢◌, slice_index};
+ghost use Rattle.std.specs.Prelude.{◌≡◌, ◌≤◌, false, length, IfSome, IfOk, IfErr, vec_len, MatchResult, ◌≢◌, slice_index};
 ghost use Rattle.std.specs.Str.Parse.{ParsesUnsigned};
 ghost use Rattle.allocation_text.specs.Lines.{silent};
 
@@ -77,10 +77,7 @@ impl<'a> Error for BadLine<'a> {}
 fn number(text: &str) -> Result<u32, Fault<'_>>
     ensures { ParsesUnsigned 32 10 text.now result }
 {
-    match text.parse::<u32>() {
-        Ok(n) => Ok(n),
-        Err(_) => Err(Fault::NotANumber(text)),
-    }
+    text.parse::<u32>().map_err(|_| Fault::NotANumber(text))
 }
 
 // The numbers behind the word.
@@ -128,7 +125,7 @@ struct Lines<'a> {
 fn says_nothing(line: &str) -> bool
     ensures { result ≡ silent line.now }
 {
-    line.is_empty() || line.as_bytes()[0] == b'#'
+    line.is_empty() || line.starts_with('#')
 }
 
 impl<'a> Lines<'a> {
@@ -143,7 +140,7 @@ impl<'a> Lines<'a> {
     fn next_line(&mut self) -> Option<&'a str>
         ensures { IfSome result (λ line. silent line.now ≡ false) }
     {
-        while let Some(line) = self.rest.next() {
+        for line in &mut self.rest {
             self.read = self.read.saturating_add(1);
             let line = line.trim();
             if !says_nothing(line) {
@@ -154,31 +151,18 @@ impl<'a> Lines<'a> {
         None
     }
 
-    fn wrong(&self, fault: Fault<'a>) -> BadLine<'a>
-        ensures line { result.line ≡ self.now.read }
+    // What is read of the next line; a missing line is read as an empty one.
+    fn read_next<T: Drop, F: FnOnce(&'a str) -> Result<T, Fault<'a>>>(
+        &mut self,
+        of_line: F,
+    ) -> Result<T, BadLine<'a>>
+        requires { F.IsAlwaysCallable of_line }
+        ensures found { IfOk result (λ found. (text : _) × F.post of_line text (Ok found)) }
+        ensures line { IfErr result (λ wrong. wrong.line ≡ self.new.read) }
     {
-        BadLine {
-            line: self.read,
-            fault,
-        }
-    }
-
-    fn many(&mut self, heap: Global, word: &'a str) -> Result<Vec<u32>, BadLine<'a>>
-        ensures { IfOk result (λ v. vec_len v ≤ 1_024) }
-    {
-        let line = self.next_line().unwrap_or("");
-        match numbers(heap, line, word) {
-            Ok(found) => Ok(found),
-            Err(fault) => Err(self.wrong(fault)),
-        }
-    }
-
-    fn one(&mut self, heap: Global, word: &'a str) -> Result<u32, BadLine<'a>> {
-        let line = self.next_line().unwrap_or("");
-        match number_behind(heap, line, word) {
-            Ok(found) => Ok(found),
-            Err(fault) => Err(self.wrong(fault)),
-        }
+        let text = self.next_line().unwrap_or("");
+        let line = self.read;
+        of_line(text).map_err(|fault| BadLine { line, fault })
     }
 }
 
@@ -187,12 +171,15 @@ impl Order {
         ensures { IfOk result (λ o. (vec_len o.shorts ≤ 1_024) × (vec_len o.tape ≤ 1_024)) }
     {
         let mut lines = Lines::new(text);
-        let shorts = lines.many(heap, "shorts")?;
-        let exercised = lines.one(heap, "exercised")?;
-        let block = lines.one(heap, "block")?;
-        let tape = lines.many(heap, "tape")?;
+        let shorts = lines.read_next(|line| numbers(heap, line, "shorts"))?;
+        let exercised = lines.read_next(|line| number_behind(heap, line, "exercised"))?;
+        let block = lines.read_next(|line| number_behind(heap, line, "block"))?;
+        let tape = lines.read_next(|line| numbers(heap, line, "tape"))?;
         if lines.next_line().is_some() {
-            return Err(lines.wrong(Fault::AfterTheEnd));
+            return Err(BadLine {
+                line: lines.read,
+                fault: Fault::AfterTheEnd,
+            });
         }
         Ok(Order {
             shorts,

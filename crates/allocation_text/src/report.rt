@@ -5,9 +5,9 @@ ghost use Rattle.allocation.specs.Allocation.{allocation};
 
 use crate::input::Order;
 use allocation::{Unassigned, allocate};
-use anyhow::anyhow;
 use draws::{Draws, Pair, Recorder, Tape};
 use std::alloc::Global;
+use std::error::Error;
 use std::fmt;
 
 // Counts by account, those of 0 left out.
@@ -16,18 +16,39 @@ struct Counts<'a>(&'a [u32]);
 
 impl<'a> fmt::Display for Counts<'a> {
     fn fmt<W: fmt::Write>(&self, f: &mut fmt::Formatter<W>) -> fmt::Result {
-        let mut first = true;
-        for (i, count) in self.0.iter().enumerate() {
-            if *count > 0 {
-                let account = i.saturating_add(1);
-                let between = if first { "" } else { ", " };
-                write!(f, "{between}account {account}: {count}")?;
-                first = false;
-            }
+        let counts = (1u64..).zip(self.0).filter(|(_, count)| **count > 0);
+        for (i, (account, count)) in counts.enumerate() {
+            let between = if i == 0 { "" } else { ", " };
+            write!(f, "{between}account {account}: {count}")?;
         }
         Ok(())
     }
 }
+
+// Why nothing was assigned, with so many draws at hand.
+#[derive(Clone, Copy, Debug)]
+struct TurnedBack {
+    cause: Unassigned,
+    at_hand: u64,
+}
+
+impl fmt::Display for TurnedBack {
+    fn fmt<W: fmt::Write>(&self, f: &mut fmt::Formatter<W>) -> fmt::Result {
+        let at_hand = self.at_hand;
+        match self.cause {
+            Unassigned::PlacesDiffer => write!(f, "the lists differ in length"),
+            Unassigned::TooManyAccounts => write!(f, "more than 64 accounts"),
+            Unassigned::TooManyShorts => write!(f, "more than 100,000 short contracts"),
+            Unassigned::BlockOutOfRange => write!(f, "the block is not from 1 to 1,000 contracts"),
+            Unassigned::TooManyExercised => write!(f, "more contracts exercised than are short"),
+            Unassigned::DrawsShort(needed) => {
+                write!(f, "{needed} draws are needed, and {at_hand} are at hand")
+            },
+        }
+    }
+}
+
+impl Error for TurnedBack {}
 
 // What one draw takes from each account: the allocation of its contracts as one block from its starting contract.
 fn one_draw(remaining: &[u32], start: u32, count: u32, taken: &mut [u32]) -> Result<u32, Unassigned>
@@ -43,8 +64,8 @@ fn one_draw(remaining: &[u32], start: u32, count: u32, taken: &mut [u32]) -> Res
 fn take_away(remaining: &mut [u32], taken: &[u32])
     ensures { (i : ℕ) → slice_index remaining.new i ≡ slice_index remaining.old i - slice_index taken.now i }
 {
-    for i in 0..remaining.len().min(taken.len()) {
-        remaining[i] = remaining[i].saturating_sub(taken[i]);
+    for (i, left) in remaining.iter_mut().enumerate() {
+        *left = left.saturating_sub(taken.get(i).copied().unwrap_or(0));
     }
 }
 
@@ -59,19 +80,14 @@ fn draw_lines(
     let mut remaining = order.shorts.clone()?;
     let mut taken = vec![in heap; 0; remaining.len()]?;
     let mut left = order.exercised;
-    for (i, pair) in pairs.iter().enumerate() {
-        let draw = i.saturating_add(1);
-        let bound = pair.bound;
-        let start = pair.answer;
+    for (draw, &Pair { bound, answer }) in (1u64..).zip(pairs) {
         let count = order.block.min(left);
         left -= count;
-        if let Err(cause) = one_draw(remaining.as_slice(), start, count, taken.as_mut_slice()) {
-            let why = said(heap, cause, 1)?;
-            return Err(anyhow!("{why}"));
-        }
+        let drawn = one_draw(remaining.as_slice(), answer, count, taken.as_mut_slice());
+        drawn.map_err(|cause| TurnedBack { cause, at_hand: 1 })?;
         take_away(remaining.as_mut_slice(), taken.as_slice());
         let from = Counts(taken.as_slice());
-        writeln!(text, "{draw:>4}{bound:>11}{start:>8}{count:>8}  {from}")?;
+        writeln!(text, "{draw:>4}{bound:>11}{answer:>8}{count:>8}  {from}")?;
     }
     Ok(())
 }
@@ -79,30 +95,10 @@ fn draw_lines(
 // A line for each account.
 fn account_lines(text: &mut String, shorts: &[u32], assigned: &[u32]) -> anyhow::Result<()> {
     writeln!(text, "account   short  assigned")?;
-    for (i, (short, count)) in shorts.iter().zip(assigned.iter()).enumerate() {
-        let account = i.saturating_add(1);
+    for (account, (short, count)) in (1u64..).zip(shorts.iter().zip(assigned)) {
         writeln!(text, "{account:>7}{short:>8}{count:>10}")?;
     }
     Ok(())
-}
-
-// Why nothing was assigned, with so many draws at hand.
-fn said(heap: Global, cause: Unassigned, at_hand: u64) -> anyhow::Result<String> {
-    let why = match cause {
-        Unassigned::PlacesDiffer => String::from_str(heap, "the lists differ in length")?,
-        Unassigned::TooManyAccounts => String::from_str(heap, "more than 64 accounts")?,
-        Unassigned::TooManyShorts => String::from_str(heap, "more than 100,000 short contracts")?,
-        Unassigned::BlockOutOfRange => {
-            String::from_str(heap, "the block is not from 1 to 1,000 contracts")?
-        },
-        Unassigned::TooManyExercised => {
-            String::from_str(heap, "more contracts exercised than are short")?
-        },
-        Unassigned::DrawsShort(needed) => {
-            format!(in heap; "{needed} draws are needed, and {at_hand} are at hand")?
-        },
-    };
-    Ok(why)
 }
 
 // The allocation draw by draw, or why it was turned back.
@@ -132,7 +128,7 @@ pub fn report_of(heap: Global, order: &Order) -> anyhow::Result<String> {
             Ok(text)
         },
         Err(cause) => {
-            let why = said(heap, cause, at_hand)?;
+            let why = TurnedBack { cause, at_hand };
             Ok(format!(in heap; "turned back: {why}\n")?)
         },
     }
