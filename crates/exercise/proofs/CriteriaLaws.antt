@@ -1,5 +1,5 @@
 -- Accepted criteria, fixing prices and movements of collateral.
-use Rattle.std.proofs.Common.{◌≡◌, ℕ, ◌+◌, ◌-◌, ◌≤◌, true, ◌&&◌, ◌||◌, eqb, None, ◌∙◌, inl, inr, arith, length-set}
+use Rattle.std.proofs.Common.{◌≡◌, ℕ, ◌+◌, ◌-◌, ◌≤◌, Bool, true, false, ◌&&◌, ◌||◌, eqb, Some, None, Option, ◌∙◌, inl, inr, arith, length-set}
 use Rattle.std.proofs.lemmas.Bool.{or_cases, eqb-true, leb-true, cond_both}
 use Rattle.draws.specs.Checks.{first_refusal}
 use Rattle.draws.proofs.Passes.{all_pass}
@@ -13,8 +13,12 @@ use Rattle.exercise.specs.Criteria.{form_in_range, criterion_checks, with_house,
 use Rattle.ledger.specs.Sound.{Facts}
 use Rattle.ledger.proofs.FactLaws.{account_placed}
 
+-- they say nothing of the house, the fixing price and trading
+facts_aside : (s : State) (h : House) (fixing : Option ℕ) (trading : Bool) → Facts s → Facts (record s { house = h; fixing = fixing; trading = trading })
+facts_aside s h fixing trading f = record { ranges = f.ranges; tables = f.tables; balanced = f.balanced; waiting = f.waiting; strikes = f.strikes; unlisted = f.unlisted; valid = f.valid; asked = f.asked; collateral = f.collateral }
+
 pub facts_house : (s : State) (h : House) → Facts s → Facts (with_house s h)
-facts_house s h f = record { ranges = f.ranges; tables = f.tables; balanced = f.balanced; waiting = f.waiting; strikes = f.strikes; unlisted = f.unlisted; valid = f.valid; asked = f.asked; collateral = f.collateral }
+facts_house s h f = facts_aside s h s.fixing s.trading f
 
 pub facts_with_account : (s : State) (n : ℕ) (a : Account) → Facts s → a.collateral ≤ 99_999_999 → Facts (with_account s n a)
 facts_with_account s n a f small = record {
@@ -58,10 +62,10 @@ pub fixing_range : (price : ℕ) → first_refusal (fixing_checks price) ≡ Non
 fixing_range price h = (all_pass (fixing_checks price) h).0
 
 pub facts_fixed : (s : State) (price : ℕ) → Facts s → Facts (price_fixed s price)
-facts_fixed s price f = record { ranges = f.ranges; tables = f.tables; balanced = f.balanced; waiting = f.waiting; strikes = f.strikes; unlisted = f.unlisted; valid = f.valid; asked = f.asked; collateral = f.collateral }
+facts_fixed s price f = facts_aside s s.house (Some price) s.trading f
 
 pub facts_closed : (s : State) → Facts s → Facts (trading_closed s)
-facts_closed s f = record { ranges = f.ranges; tables = f.tables; balanced = f.balanced; waiting = f.waiting; strikes = f.strikes; unlisted = f.unlisted; valid = f.valid; asked = f.asked; collateral = f.collateral }
+facts_closed s f = facts_aside s s.house s.fixing false f
 
 -- ── collateral ──
 

@@ -47,16 +47,16 @@ criterion_checks s account right form value =
     ∷ []
 
 abbrev pub with_house : State → House → State
-with_house s h = record { terms = s.terms; day = s.day; previous = s.previous; stage = s.stage; trading = s.trading; fixing = s.fixing; house = h; accounts = s.accounts; series = s.series; legs = s.legs; requests = s.requests }
+with_house s h = record s { house = h }
 
 abbrev pub house_with : House → Right → Criterion → House
 house_with h right k = record { calls = of_right right k h.calls; puts = of_right right h.puts k }
 
 abbrev pub account_with : Account → Right → Option Criterion → Account
-account_with a right k = record { participant = a.participant; account_type = a.account_type; collateral = a.collateral; calls = of_right right k a.calls; puts = of_right right a.puts k }
+account_with a right k = record a { calls = of_right right k a.calls; puts = of_right right a.puts k }
 
 abbrev pub with_account : State → ℕ → Account → State
-with_account s n a = with_accounts s (record { rows = slice_set s.accounts.rows (n - 1) a; count = s.accounts.count })
+with_account s n a = with_accounts s (record s.accounts { rows = slice_set s.accounts.rows (n - 1) a })
 
 abbrev pub own_of_form : ℕ → ℕ → Option Criterion
 own_of_form form value = cond (form == 0) None (Some (criterion_of_form form value))
@@ -73,17 +73,17 @@ abbrev pub fixing_checks : ℕ → List (Bool × Refusal)
 fixing_checks price = (within price 1 1_000_000, OutOfRange) ∷ []
 
 abbrev pub price_fixed : State → ℕ → State
-price_fixed s price = record { terms = s.terms; day = s.day; previous = s.previous; stage = s.stage; trading = s.trading; fixing = Some price; house = s.house; accounts = s.accounts; series = s.series; legs = s.legs; requests = s.requests }
+price_fixed s price = record s { fixing = Some price }
 
 -- ── end of trading ──
 
 abbrev pub trading_closed : State → State
-trading_closed s = record { terms = s.terms; day = s.day; previous = s.previous; stage = s.stage; trading = false; fixing = s.fixing; house = s.house; accounts = s.accounts; series = s.series; legs = s.legs; requests = s.requests }
+trading_closed s = record s { trading = false }
 
 -- ── collateral ──
 
 abbrev pub with_collateral : Account → ℕ → Account
-with_collateral a shares = record { participant = a.participant; account_type = a.account_type; collateral = shares; calls = a.calls; puts = a.puts }
+with_collateral a shares = record a { collateral = shares }
 
 abbrev pub lodge_checks : State → ℕ → ℕ → List (Bool × Refusal)
 lodge_checks s account shares =

@@ -1,18 +1,18 @@
 -- Exercise requests, their rejection, and denials.
-use Rattle.std.specs.Prelude.{ℕ, ◌-◌, Bool, true, false, not, ◌&&◌, List, [], ◌∷◌, nat_le, nat_lt, slice_index_or, slice_set}
+use Rattle.std.specs.Prelude.{ℕ, ◌-◌, Bool, true, false, not, ◌&&◌, List, [], ◌∷◌, nat_le, nat_lt, slice_set}
 use Rattle.positions.specs.Cells.{with_denied}
 use Rattle.ledger.specs.declared.refusal.Refusal.{Refusal}
 use Rattle.ledger.specs.declared.refusal.Refusal.TheVariants.{OutOfRange, NoAccount, NoSeries, NoRequest, Expired, NotExpiring, Full}
 use Rattle.ledger.specs.declared.state.Request.{Request}
 use Rattle.ledger.specs.declared.state.State.{State}
-use Rattle.ledger.specs.Tables.{Requests, one_more, cells_of, cell_at, no_request, with_cells}
+use Rattle.ledger.specs.Tables.{Requests, one_more, row_of, cells_of, cell_at, no_request, with_cells}
 use Rattle.ledger.specs.Lookups.{within, has, has_account, has_series, expired, expiring}
 
 abbrev pub with_requests : State → Requests → State
-with_requests s t = record { terms = s.terms; day = s.day; previous = s.previous; stage = s.stage; trading = s.trading; fixing = s.fixing; house = s.house; accounts = s.accounts; series = s.series; legs = s.legs; requests = t }
+with_requests s t = record s { requests = t }
 
 abbrev pub request_of : State → ℕ → Request
-request_of s n = slice_index_or s.requests.rows (n - 1) no_request
+request_of s n = row_of s.requests n no_request
 
 -- ── request ──
 
@@ -44,10 +44,10 @@ abbrev pub rejection_checks : State → ℕ → List (Bool × Refusal)
 rejection_checks s n = (has_pending s n, NoRequest) ∷ []
 
 abbrev pub no_more_pending : Request → Request
-no_more_pending r = record { account = r.account; series = r.series; quantity = r.quantity; pending = false }
+no_more_pending r = record r { pending = false }
 
 abbrev pub request_rejected : State → ℕ → State
-request_rejected s n = with_requests s (record { rows = slice_set s.requests.rows (n - 1) (no_more_pending (request_of s n)); count = s.requests.count })
+request_rejected s n = with_requests s (record s.requests { rows = slice_set s.requests.rows (n - 1) (no_more_pending (request_of s n)) })
 
 -- ── denial ──
 

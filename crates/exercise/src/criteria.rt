@@ -1,6 +1,6 @@
 ghost use Rattle.std.specs.Prelude.{◌≡◌, ◌+◌, ◌≤◌, true};
 ghost use Rattle.draws.specs.Checks.{checked};
-ghost use Rattle.ledger.specs.Tables.{account_of};
+ghost use Rattle.ledger.specs.Tables.{RowNumber, account_of};
 ghost use Rattle.ledger.specs.Lookups.{has_account};
 ghost use Rattle.exercise.specs.Criteria.{of_right, criterion_of, form_in_range, criterion_checks, own_of_form, criterion_set, fixing_checks, price_fixed, trading_closed, lodge_checks, lodged, withdrawal_checks, collateral_withdrawn};
 
@@ -49,11 +49,11 @@ fn set_of_right<T: Copy>(right: Right, calls: &mut T, puts: &mut T, value: T)
 
 // The account's own criterion, else the house's.
 pub fn criterion(book: &State, account: u32, right: Right) -> Criterion
-    requires { (1 ≤ account) × (account ≤ 32) }
+    requires { RowNumber 32 account }
     ensures { result ≡ criterion_of book.now account right }
 {
     let house = &book.house;
-    let own = &book.accounts.rows[account as usize - 1];
+    let own = book.accounts.row(account);
     of_right(right, own.calls, own.puts).unwrap_or(of_right(right, house.calls, house.puts))
 }
 
@@ -123,7 +123,7 @@ fn collateral(book: &Ledger, account: u32) -> u32
     ensures is { result ≡ (account_of book.now.state account).collateral }
     ensures small { result ≤ 99_999_999 }
 {
-    book.state.accounts.rows[account as usize - 1].collateral
+    book.state.accounts.row(account).collateral
 }
 
 // Why shares are not lodged, if they are not.

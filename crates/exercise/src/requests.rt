@@ -1,5 +1,6 @@
 ghost use Rattle.std.specs.Prelude.{◌≡◌, ◌+◌, ◌<◌, ◌≤◌, true};
 ghost use Rattle.draws.specs.Checks.{checked};
+ghost use Rattle.ledger.specs.Tables.{RowNumber};
 ghost use Rattle.ledger.specs.Lookups.{has_account, has_series};
 ghost use Rattle.exercise.specs.Requests.{request_checks, request_added, has_pending, rejection_checks, request_rejected, denial_checks, denial_noted};
 
@@ -45,7 +46,7 @@ pub fn add_request(book: &mut State, account: u32, series: u32, quantity: u32) -
 fn has_pending(book: &Ledger, n: u32) -> bool
     ensures { result ≡ has_pending book.now.state n }
 {
-    book.state.requests.has(n) && book.state.requests.rows[n as usize - 1].pending
+    book.state.requests.has(n) && book.state.requests.row(n).pending
 }
 
 // Why a request's rejection is turned back, if it is.
@@ -60,7 +61,7 @@ pub fn check_rejection(book: &Ledger, n: u32) -> Result<(), Refusal>
 
 // Rejects the request.
 pub fn reject_request(book: &mut State, n: u32)
-    requires { (1 ≤ n) × (n ≤ 128) }
+    requires { RowNumber 128 n }
     ensures { book.new ≡ request_rejected book.old n }
 {
     book.requests.rows[n as usize - 1].pending = false;
