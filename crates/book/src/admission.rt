@@ -9,7 +9,7 @@ use crate::pass::{AssignedPass, CutPass, InputPass};
 use ledger::{Refusal, Stage};
 
 impl Book {
-    // Turns back a pass that is not of the book's stage, of this book and of this day.
+    // Turns back a pass that is not of the stage that the book is in, of this book and of this day.
     fn admit_at(&self, stage: Stage, number: u32, day: u32) -> Result<(), Refusal>
         ensures { result ≡ checked ((fits stage self.now.state number day, PassMisfit) ∷ []) }
     {

@@ -14,6 +14,7 @@ use ledger::Refusal;
 use settlement::Line;
 
 impl Book {
+    // Why the cut is turned back, if it is.
     fn check_cut(&self, pass: &InputPass) -> Result<(), Refusal>
         ensures { result ≡ passed (cut_refusal self.now.state pass.now) }
     {
@@ -34,6 +35,7 @@ impl Book {
         Ok(CutPass { number, day })
     }
 
+    // Why an assignment is turned back, if it is.
     fn check_assignment<S: Draws>(&self, pass: &CutPass, source: &S) -> Result<(), Refusal>
         ensures { result ≡ passed (assignment_refusal self.now.state pass.now (S.meaning source.now)) }
     {
@@ -70,6 +72,7 @@ impl Book {
         Ok(dayend::write_statement(&self.ledger, lines))
     }
 
+    // Why the next day is turned back, if it is.
     fn check_next_day(&self, pass: &AssignedPass, day: u32) -> Result<(), Refusal>
         ensures { result ≡ passed (next_day_refusal self.now.state pass.now day) }
     {

@@ -8,6 +8,7 @@ use ledger::{Account, House, Ledger, Refusal, State, is_within};
 use positions::{Criterion, Right};
 
 // Whether a criterion's form and value may stand: form 0 is for accounts alone.
+// Kept: the forms are the archive's numbers.
 fn form_in_range(account: u32, form: u32, value: u32) -> bool
     ensures { result ≡ form_in_range account form value }
 {

@@ -1,4 +1,4 @@
-ghost use Rattle.std.specs.Prelude.{◌≡◌, ◌+◌, ◌<◌, ◌≤◌, true};
+ghost use Rattle.std.specs.Prelude.{◌≡◌, ◌+◌, ◌<◌, true};
 ghost use Rattle.draws.specs.Checks.{checked};
 ghost use Rattle.ledger.specs.Tables.{RowNumber};
 ghost use Rattle.ledger.specs.Lookups.{has_account, has_series};
