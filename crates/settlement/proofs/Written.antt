@@ -1,5 +1,9 @@
 -- Lists written into a list from a place on.
-use Rattle.std.proofs.Common.{◌≡◌, ℕ, suc, ◌+◌, ◌<◌, ◌≤◌, List, [], ◌∷◌, ◌++◌, length, take, drop, set, sym, refl, ap, ◌∙◌, append_assoc, arith, length-append}
+use Rattle.std.proofs.Common.{◌≡◌, ℕ, suc, ◌+◌, ◌<◌, ◌≤◌, List, [], ◌∷◌, ◌++◌, length, get_or, take, drop, set, sym, ap, ◌∙◌, append_assoc, append-nil, arith, length-append}
+use Rattle.std.specs.List.{flat_map}
+use Rattle.std.proofs.lemmas.List.{take_more}
+use Rattle.std.proofs.lemmas.List.Folds.{length-flat_map-take}
+use Rattle.std.proofs.lemmas.Grind.{flat_map-append}
 use lib.Seq.{sets, sets-eq, length-sets}
 use Rattle.settlement.specs.Lines.{written}
 
@@ -35,11 +39,11 @@ module _ {X : Type 0} where
       ap (λ (l : List X). written l next ys) n ∙ ap (λ (j : ℕ). written (written d at xs) j ys) k
       ∙ written_more d at xs ys (omega (arith, ap length w, length-append xs ys)) ∙ ap (written d at) w
 
-  -- three lists, one behind another
-  pub written_three : (d : List X) (at : ℕ) (xs ys zs d₁ d₂ : List X) (n₁ n₂ : ℕ) → d₁ ≡ written d at xs → n₁ ≡ at + length xs → d₂ ≡ written d₁ n₁ ys → n₂ ≡ n₁ + length ys → at + length (xs ++ (ys ++ zs)) ≤ length d → written d₂ n₂ zs ≡ written d at (xs ++ (ys ++ zs))
-  written_three d at xs ys zs d₁ d₂ n₁ n₂ w₁ k₁ w₂ k₂ h =
-      let a = length-append xs ys in
-      let b = length-append xs (ys ++ zs) in
-      let e = length-append ys zs in
-      let two = w₂ ∙ written_next d at xs ys d₁ n₁ (xs ++ ys) w₁ k₁ refl (omega (arith, a, b, e)) in
-      written_next d at (xs ++ ys) zs d₂ n₂ (xs ++ (ys ++ zs)) two (omega (arith, a)) (append_assoc xs ys zs) h
+  -- one turn of a loop that writes the pieces of ys, one behind another
+  pub written_piece : {Y : Type 0} (f : Y → List X) (ys : List Y) (d : List X) (at i : ℕ) (now : List X) (next : ℕ) (y : Y) → i < length ys → now ≡ written d at (flat_map f (take i ys)) → next ≡ at + length (flat_map f (take i ys)) → at + length (flat_map f ys) ≤ length d → (next + length (f (get_or ys i y)) ≡ at + length (flat_map f (take (i + 1) ys))) × (written now next (f (get_or ys i y)) ≡ written d at (flat_map f (take (i + 1) ys)))
+  written_piece f ys d at i now next y h n k room =
+      let done = flat_map f (take i ys) in
+      let more : done ++ f (get_or ys i y) ≡ flat_map f (take (i + 1) ys) = ap (λ (p : List X). done ++ p) (sym (append-nil (f (get_or ys i y)))) ∙ sym (flat_map-append f (take i ys) (get_or ys i y ∷ [])) ∙ ap (flat_map f) (sym (take_more ys i y h)) in
+      let sizes = length-append done (f (get_or ys i y)) in
+      let left = length-flat_map-take f ys i y h in
+      (omega (arith, k, sizes, ap length more), written_next d at done (f (get_or ys i y)) now next (flat_map f (take (i + 1) ys)) n k more (omega (arith, sizes, left, room, ap length more)))

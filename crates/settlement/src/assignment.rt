@@ -11,6 +11,7 @@ use crate::account::{AssignmentTerms, end_day};
 use allocation::allocate;
 use draws::Draws;
 use positions::Cell;
+use std::array;
 
 // The contracts that all accounts exercise.
 fn total_exercised(cells: &[Cell; 32]) -> u32
@@ -35,7 +36,7 @@ pub fn draws_for_series(cells: &[Cell; 32], block: u32) -> u32
 fn list_shorts(cells: &[Cell; 32]) -> [u32; 32]
     ensures { result ≡ shorts_of cells.now }
 {
-    cells.map(|cell| cell.shorts)
+    array::from_fn(|i| cells[i].shorts)
 }
 
 // Assigns by draw, where that is not turned back.

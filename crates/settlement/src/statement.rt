@@ -1,9 +1,24 @@
-ghost use Rattle.std.specs.Prelude.{◌≡◌, ℕ, ◌+◌, ◌≤◌, length, get_or, slice_index_or};
+ghost use Rattle.std.specs.Prelude.{◌≡◌, ℕ, ◌+◌, ◌≤◌, [], ◌∷◌, length, get_or, slice_index_or};
 ghost use Rattle.positions.specs.Cells.{no_cell};
-ghost use Rattle.settlement.specs.Lines.{if_any, cell_lines, series_lines, one_if_any, line_count, lines_needed, written, Countable};
+ghost use Rattle.settlement.specs.Lines.{exercised_line, covered_line, uncovered_line, if_any, cell_lines, series_lines, one_if_any, line_count, lines_needed, written, Countable};
 
 use crate::line::{Line, Method, Role, SeriesTerms};
 use positions::Cell;
+
+// The lines of one account, among them those of no contracts: of what it exercised, and of what was assigned to it,
+// covered and not.
+fn lines_of(terms: &SeriesTerms, account: u32, cell: &Cell) -> [Line; 3]
+    requires counts { Countable cell.now }
+    requires size { terms.now.size ≤ 10_000 }
+    ensures { result ≡ exercised_line terms.now account cell.now ∷ covered_line terms.now account cell.now ∷ uncovered_line terms.now account cell.now ∷ [] }
+{
+    let uncovered = cell.assigned - cell.covered;
+    [
+        terms.line_for(account, Role::Exerciser, Method::Other, cell.exercised),
+        terms.line_for(account, Role::Assignee, Method::Covered, cell.covered),
+        terms.line_for(account, Role::Assignee, Method::Other, uncovered),
+    ]
+}
 
 // A slice of lines, and the place of the next line in it.
 #[derive(Drop)]
@@ -38,10 +53,9 @@ impl Writer<'_> {
         if cell.exercised == 0 && cell.assigned == 0 {
             return;
         }
-        let uncovered = cell.assigned - cell.covered;
-        self.put(terms.line_for(account, Role::Exerciser, Method::Other, cell.exercised));
-        self.put(terms.line_for(account, Role::Assignee, Method::Covered, cell.covered));
-        self.put(terms.line_for(account, Role::Assignee, Method::Other, uncovered));
+        for line in lines_of(terms, account, cell) {
+            self.put(line);
+        }
     }
 }
 

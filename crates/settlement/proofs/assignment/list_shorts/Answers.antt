@@ -1,17 +1,13 @@
-use Rattle.std.proofs.Common.{◌≡◌, length, get_or, sym, ◌∙◌, rules, arith}
-use Rattle.std.proofs.lemmas.List.{ext_get_or, get_or-map, length-map}
+use Rattle.std.proofs.Common.{ℕ, get_or, ap, ◌∙◌, map, sym, rules}
+use Rattle.std.specs.List.{range_with_len}
 use Rattle.positions.specs.declared.cell.Cell.{Cell}
 use Rattle.positions.specs.Cells.{no_cell}
-use Rattle.settlement.specs.Assignment.{shorts_of}
+use Rattle.settlement.proofs.Filling.{map_places, made_all}
 use Rattle.settlement.proofs.assignment.list_shorts.Goals as goal
 
 pub returns : goal.returns
 returns c =
     let cells = c.args.cells.now in
-    let out = c.map.result in
-    let same : length out ≡ length (shorts_of cells) = omega (arith, c.map.ensures.items.long, length-map cells (λ (x : Cell). x.shorts)) in
-    ext_get_or 0 out (shorts_of cells) same
-    (λ i h.
-    let w = c.map.ensures.items.at i no_cell 0 (omega (arith, c.map.ensures.items.long)) in
-    let e : get_or out i 0 ≡ (get_or cells i no_cell).shorts = search rules in
-    e ∙ sym (get_or-map (λ (x : Cell). x.shorts) cells i no_cell 0 (omega (arith, c.map.ensures.items.long))))
+    let h : ℕ → ℕ = λ i. (get_or cells i no_cell).shorts in
+    made_all _ h _ (λ k x q w. search rules) _ 32 0 c.from_fn.ensures.items
+    ∙ ap (λ n. map h (range_with_len 0 n)) (sym c.told-cells) ∙ map_places (λ (x : Cell). x.shorts) cells no_cell 0
