@@ -68,10 +68,10 @@ fn automatic_in(book: &State, series: u32) -> [bool; 32]
     ensures { (a : ℕ) → a < 32 → slice_index_or result a false ≡ automatic book.now (a + 1) series }
 {
     let Contract { right, strike, .. } = book.series.row(series).contract;
-    let price = book.fixing.filter(|_| book.expiring(series));
-    array::from_fn(|a| {
-        price.is_some_and(|price| criterion(book, a as u32 + 1, right).meets(right, strike, price))
-    })
+    let Some(price) = book.fixing.filter(|_| book.expiring(series)) else {
+        return [false; 32];
+    };
+    array::from_fn(|a| criterion(book, a as u32 + 1, right).meets(right, strike, price))
 }
 
 // The same for each series.
@@ -105,7 +105,7 @@ fn cut_cells(
     }
 }
 
-// The series after the cut, each by its place.
+// Cuts each series.
 fn cut_rows(book: &mut State)
     requires { Facts book.old }
     ensures { book.new ≡ with_listing book.old (record book.old.series { rows = each (cut_series book.old) book.old.series.rows }) }
