@@ -1,14 +1,12 @@
 -- The tape numbers that no assignment has read.
-use Rattle.std.specs.Prelude.{ℕ, ◌-◌, cond, List, [], ◌∷◌, ◌++◌, length, take, drop, nat_lt}
+use Rattle.std.specs.Prelude.{ℕ, ◌-◌, cond, List, [], ◌∷◌, ◌++◌, length, drop, nat_lt}
 use Rattle.draws.specs.declared.Reply.{Reply}
+use Rattle.few.specs.Contents.{contents}
 use Rattle.host.specs.declared.unread.Unread.{Unread}
 
 -- there is room for 1,024
-abbrev pub first : ℕ → List ℕ → List ℕ
-first count xs = take 1_024 (take count xs)
-
 abbrev pub unread_of : Unread → List ℕ
-unread_of u = first u.count u.numbers
+unread_of u = contents u.numbers
 
 -- a full list takes no number
 abbrev pub number_reply : List ℕ → Reply

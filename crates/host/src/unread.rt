@@ -1,7 +1,8 @@
-ghost use Rattle.std.specs.Prelude.{◌≡◌, ◌<◌, [], ◌∷◌, ◌++◌, length};
+ghost use Rattle.std.specs.Prelude.{◌≡◌, []};
 ghost use Rattle.register.specs.Register.{replied};
-ghost use Rattle.host.specs.Numbers.{first, unread_of, number_reply, with_number, last};
+ghost use Rattle.host.specs.Numbers.{unread_of, number_reply, with_number, last};
 
+use few::Few;
 use ledger::Refusal;
 
 // How many numbers are held at most.
@@ -10,42 +11,7 @@ const PLACES: usize = 1_024;
 // Tape numbers that no assignment has read, the oldest first.
 #[derive(Drop)]
 pub struct Unread {
-    numbers: [u32; PLACES],
-    count: usize,
-}
-
-// The first `count` numbers, or all where there are fewer.
-fn front(numbers: &[u32; PLACES], count: usize) -> &[u32]
-    ensures { result.now ≡ first count numbers.now }
-{
-    if count < PLACES {
-        &numbers[0..count]
-    } else {
-        &numbers[0..PLACES]
-    }
-}
-
-// Puts `n` behind the first `count` numbers, and answers the new count.
-fn put(numbers: &mut [u32; PLACES], count: usize, n: u32) -> usize
-    requires { length (first count numbers.old) < 1_024 }
-    ensures { first result numbers.new ≡ first count numbers.old ++ (n ∷ []) }
-{
-    numbers[count] = n;
-    count + 1
-}
-
-// Moves the last `left` of the first `count` numbers to the front, and answers how many they are.
-fn shift(numbers: &mut [u32; PLACES], count: usize, left: u64) -> usize
-    ensures { first result numbers.new ≡ last left (first count numbers.old) }
-{
-    let held = count.min(PLACES);
-    if left < held as u64 {
-        let kept = left as usize;
-        numbers.rotate_left(held - kept);
-        kept
-    } else {
-        held
-    }
+    numbers: Few<u32, PLACES>,
 }
 
 impl Unread {
@@ -53,15 +19,14 @@ impl Unread {
         ensures { unread_of result ≡ [] }
     {
         Unread {
-            numbers: [0; PLACES],
-            count: 0,
+            numbers: Few::new(0),
         }
     }
 
     pub(crate) fn numbers(&self) -> &[u32]
         ensures { result.now ≡ unread_of self.now }
     {
-        front(&self.numbers, self.count)
+        self.numbers.as_slice()
     }
 
     // Takes one more number, if there is room.
@@ -69,18 +34,17 @@ impl Unread {
         ensures reply { replied result ≡ number_reply (unread_of self.old) }
         ensures after { unread_of self.new ≡ with_number (unread_of self.old) number }
     {
-        if self.numbers().len() < PLACES {
-            self.count = put(&mut self.numbers, self.count, number);
-            Ok(0)
-        } else {
-            Err(Refusal::Full)
+        if self.numbers.room() == 0 {
+            return Err(Refusal::Full);
         }
+        let _ = self.numbers.push(number);
+        Ok(0)
     }
 
     // Keeps the last `left` numbers.
     pub(crate) fn keep_last(&mut self, left: u64)
         ensures { unread_of self.new ≡ last left (unread_of self.old) }
     {
-        self.count = shift(&mut self.numbers, self.count, left);
+        self.numbers.keep_last(left as usize);
     }
 }

@@ -1,10 +1,11 @@
-use Rattle.std.proofs.Common.{◌≤◌, length, ap, arith}
+use Rattle.std.proofs.Common.{arith}
+use Rattle.few.specs.Contents.{contents}
 use Rattle.host.specs.Numbers.{unread_of}
-use Rattle.host.proofs.Firsts.{full_reply, full_same}
+use Rattle.host.proofs.Firsts.{room_more}
 use Rattle.host.proofs.unread.Unread.push.Goals as goal
 
-pub returns-else-numbers-lt-PLACES : goal.returns-else-numbers-lt-PLACES
-returns-else-numbers-lt-PLACES c =
-    let e = ap length c.numbers.ensures in
-    let h : 1_024 ≤ length (unread_of c.args.self.now) = omega arith in
-    record { reply = full_reply (unread_of c.args.self.now) h; after = full_same (unread_of c.args.self.now) c.args.number h }
+pub returns-clause-after : goal.returns-clause-after
+returns-clause-after c =
+    let r = c.room.ensures in
+    let f = c.if-room-eq0.false in
+    room_more (unread_of c.args.self.now) (contents c.push.new.self) c.args.number (omega arith) c.push.ensures.after
