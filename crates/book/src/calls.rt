@@ -16,11 +16,8 @@ impl Book {
         let book = Book {
             ledger: Ledger { state },
         };
-        let pass = InputPass {
-            number: o.number,
-            day: o.day,
-        };
-        Ok((book, pass))
+        let Opening { number, day, .. } = *o;
+        Ok((book, InputPass { number, day }))
     }
 
     // Adds an account, and answers its number.
