@@ -105,7 +105,7 @@ fn take_stretch(shorts: &[u32], start: u32, count: u32, assigned: &mut [u32])
 {
     let mut skip = start;
     let mut need = count;
-    for _ in 0..2u8 {
+    'walk: for _ in 0..2u8 {
         for (i, short) in shorts.iter().enumerate() {
             let open_contracts = short - assigned[i];
             let passed = skip.min(open_contracts);
@@ -114,7 +114,7 @@ fn take_stretch(shorts: &[u32], start: u32, count: u32, assigned: &mut [u32])
             assigned[i] += taken;
             need -= taken;
             if need == 0 {
-                return;
+                break 'walk;
             }
         }
     }
