@@ -10,6 +10,7 @@ use std::alloc::AllocError;
 pub struct Full;
 
 // At most N items, in the order in which they came.
+// Kept: an array with its count, since nothing is on a heap here; the count is private, and its limit a ghost field.
 pub struct Few<T, const N: usize> {
     items: [T; N],
     count: usize,
