@@ -1,5 +1,5 @@
 -- A pass that fits says in which stage the book is.
-use Rattle.std.proofs.Common.{◌≡◌, ℕ, ◌≤◌, Bool, true, false, List, Some, None, Option, Ok, Err, sym, refl}
+use Rattle.std.proofs.Common.{◌≡◌, ◌≤◌, Bool, true, false, List, Some, None, Option, Ok, Err, sym, refl}
 use Rattle.std.proofs.lemmas.Bool.{and_parts, true≢false, leb-true}
 use Rattle.draws.specs.Checks.{unless, first_refusal, passed as answered}
 use Rattle.draws.specs.Meaning.{Meaning}
@@ -11,7 +11,6 @@ use Rattle.ledger.specs.declared.state.Stage.{Stage}
 use Rattle.ledger.specs.declared.state.Stage.TheVariants.{Input, Cut, Assigned}
 use Rattle.ledger.specs.declared.state.State.{State}
 use Rattle.dayend.specs.Assignment.{needed, assignment_checks}
-use Rattle.dayend.specs.Statement.{places_needed, statement_checks}
 use Rattle.book.specs.declared.pass.InputPass.{InputPass}
 use Rattle.book.specs.declared.pass.CutPass.{CutPass}
 use Rattle.book.specs.Calls.{in_input, in_cut, fits_input, refused}
@@ -37,12 +36,9 @@ only_cut Assigned h = absurd (true≢false (sym h))
 pub cut_stage : (s : State) (p : CutPass) → fits_cut s p ≡ true → s.stage ≡ Cut
 cut_stage s p h = only_cut s.stage (and_parts (in_cut s.stage) _ h).0
 
--- an assignment that is not turned back has the draws it needs, a statement the places
+-- an assignment that is not turned back has the draws it needs
 pub enough_draws : (s : State) (m : Meaning) → first_refusal (assignment_checks s m) ≡ None → needed s ≤ m.supply
 enough_draws s m h = leb-true (needed s) m.supply (all_pass (assignment_checks s m) h).0
-
-pub enough_places : (s : State) (room : ℕ) → first_refusal (statement_checks s room) ≡ None → places_needed s ≤ room
-enough_places s room h = leb-true (places_needed s) room (all_pass (statement_checks s room) h).0
 
 -- ── what a call's checks answered ──
 

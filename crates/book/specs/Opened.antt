@@ -1,7 +1,8 @@
 -- What an opening answers.
-use Rattle.std.specs.Prelude.{ℕ, Some, None, Ok, Err, Option, Result}
+use Rattle.std.specs.Prelude.{Some, None, Ok, Err, Option, Result}
 use Rattle.draws.specs.Checks.{first_refusal}
 use Rattle.ledger.specs.declared.refusal.Refusal.{Refusal}
+use Rattle.ledger.specs.declared.state.Opening.{Opening}
 use Rattle.ledger.specs.declared.state.State.{State}
 use Rattle.ledger.specs.Tables.{opening}
 use Rattle.dealing.specs.Listings.{open_checks}
@@ -18,5 +19,5 @@ answer_open None s p = Ok (s, p)
 answer_open (Some r) s p = Err r
 
 -- a new book with an Input pass of its number and day, or a refusal
-abbrev pub open_call : ℕ → ℕ → ℕ → ℕ → Result (State × InputPass) Refusal
-open_call number day size block = answer_open (first_refusal (open_checks number day size block)) (opening number day size block) (record { number = number; day = day })
+abbrev pub open_call : Opening → Result (State × InputPass) Refusal
+open_call o = answer_open (first_refusal (open_checks o)) (opening o) (record { number = o.number; day = o.day })

@@ -4,19 +4,23 @@ ghost use Rattle.book.specs.Opened.{opened, open_call};
 
 use crate::book::Book;
 use crate::pass::InputPass;
-use ledger::{Ledger, PositionTransfer, Refusal, State, Trade};
+use ledger::{Ledger, Opening, PositionTransfer, Refusal, State, Trade};
 
 impl Book {
     // Opens a book, with its first pass.
-    pub fn open(number: u32, day: u32, size: u32, block: u32) -> Result<(Book, InputPass), Refusal>
-        ensures { opened result ≡ open_call number day size block }
+    pub fn open(o: &Opening) -> Result<(Book, InputPass), Refusal>
+        ensures { opened result ≡ open_call o.now }
     {
-        dealing::check_open(number, day, size, block)?;
-        let state = State::opening(number, day, size, block);
+        dealing::check_open(o)?;
+        let state = State::opening(o);
         let book = Book {
             ledger: Ledger { state },
         };
-        Ok((book, InputPass { number, day }))
+        let pass = InputPass {
+            number: o.number,
+            day: o.day,
+        };
+        Ok((book, pass))
     }
 
     // Adds an account, and answers its number.

@@ -1,7 +1,7 @@
 // A statement that has more lines than places. The host has 256, so this one is asked of the book itself.
 use book::Book;
 use draws::{Reply, Tape};
-use ledger::Trade;
+use ledger::{Opening, Trade};
 use settlement::{Line, Method, Role};
 use std::test::Fail;
 
@@ -18,6 +18,13 @@ const PLACE: Line = Line {
     settlement_day: 9,
 };
 
+const OPENING: Opening = Opening {
+    number: 7,
+    day: 100,
+    size: 100,
+    block: 5,
+};
+
 const TRADE: Trade = Trade {
     series: 1,
     buyer: 1,
@@ -31,7 +38,7 @@ const TRADE: Trade = Trade {
 // One account exercises a contract and is assigned it: two lines.
 #[test]
 fn places_too_few(rt: HostRuntime) -> Result<(), Fail> {
-    let Ok(opened) = Book::open(7, 100, 100, 5) else {
+    let Ok(opened) = Book::open(&OPENING) else {
         return Err(Fail::new("no book"));
     };
     let (mut book, input) = opened;

@@ -1,8 +1,5 @@
 -- What the cut keeps, cell by cell and leg by leg.
-use Rattle.std.proofs.Common.{◌≡◌, ℕ, ◌+◌, ◌-◌, ◌<◌, ◌≤◌, Bool, true, false, not, ◌||◌, List, get_or, is_some, None, sym, refl, ap, ◌∙◌, subst, arith}
-use Rattle.std.proofs.lemmas.Bool.{true≢false}
-use Rattle.draws.specs.Checks.{first_refusal}
-use Rattle.draws.proofs.Passes.{all_pass}
+use Rattle.std.proofs.Common.{◌≡◌, ℕ, ◌+◌, ◌<◌, ◌≤◌, List, get_or, sym, refl, ap, ◌∙◌, subst, arith}
 use Rattle.positions.specs.declared.cell.Cell.{Cell}
 use Rattle.positions.specs.declared.leg.Leg.{Leg}
 use Rattle.positions.specs.declared.leg.LegEvent.TheVariants as event
@@ -14,31 +11,9 @@ use Rattle.positions.proofs.PlaceLaws.{each_length, each_at, each_keeps, sums_ev
 use Rattle.ledger.specs.declared.state.Series.{Series}
 use Rattle.ledger.specs.declared.state.State.{State}
 use Rattle.ledger.specs.Tables.{row, cells_of, account_of, past_series}
-use Rattle.ledger.specs.Lookups.{has_series, expiring}
-use Rattle.dayend.specs.Cutoff.{any_expiring, cut_checks, asked, automatic, cut_cell, cut_cells, cut_series, cut}
+use Rattle.dayend.specs.Cutoff.{asked, automatic, cut_cell, cut_cells, cut_series, cut}
 use Rattle.ledger.specs.Sound.{Balanced, ValidLeg, Facts}
-use Rattle.ledger.proofs.FactLaws.{within_parts}
-use Rattle.dayend.proofs.CutSteps.{expiring_hit}
 use Rattle.dayend.proofs.StatementLaws.{covered_of}
-
--- ── an accepted cut ──
-
-pub record Cuttable (s : State) : Type 0 where
-  pub priced : any_expiring s s.series.count ≡ true → is_some s.fixing ≡ true
-
-implied : (b t : Bool) → (not b || t) ≡ true → b ≡ true → t ≡ true
-implied true t h on = h
-implied false t h on = absurd (true≢false (sym on))
-
-pub cuttable : (s : State) → first_refusal (cut_checks s) ≡ None → Cuttable s
-cuttable s h = record { priced = implied (any_expiring s s.series.count) (is_some s.fixing) (all_pass (cut_checks s) h).0 }
-
--- where a listed series expires there is a fixing price
-pub series_priced : (s : State) (n : ℕ) → Cuttable s → has_series s n ≡ true → expiring s n ≡ true → is_some s.fixing ≡ true
-series_priced s n k listed today =
-    let w = within_parts n 1 s.series.count listed in
-    let e : n - 1 + 1 ≡ n = omega (arith, w.0) in
-    k.priced (expiring_hit s s.series.count (n - 1) (omega (arith, w.0, w.1)) (subst (λ (m : ℕ). expiring s m ≡ true) (sym e) today))
 
 -- ── one cell ──
 

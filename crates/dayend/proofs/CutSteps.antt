@@ -1,10 +1,10 @@
 -- The loops of the cut.
-use Rattle.std.proofs.Common.{◌≡◌, ℕ, zero, suc, ◌+◌, ◌-◌, ◌<◌, ◌≤◌, min, Bool, true, false, ◌||◌, List, [], ◌∷◌, length, get_or, take, refl, ap, ◌∙◌, subst, inl, inr, add-one, arith}
+use Rattle.std.proofs.Common.{◌≡◌, ℕ, zero, suc, ◌+◌, ◌-◌, ◌<◌, ◌≤◌, min, Bool, false, ◌||◌, List, [], ◌∷◌, length, get_or, take, refl, ap, ◌∙◌, arith}
 use Rattle.std.specs.List.{list_any}
 use Rattle.std.proofs.Math.Bool.{or_comm}
 use Rattle.std.proofs.Math.Seq.{take-suc}
 use Rattle.std.proofs.lemmas.List.Folds.{list_any-append}
-use Rattle.std.proofs.lemmas.Bool.{or_left, or_right, cases_eq, cond_both}
+use Rattle.std.proofs.lemmas.Bool.{cond_both}
 use Rattle.positions.specs.declared.cell.Cell.{Cell}
 use Rattle.positions.specs.declared.kinds.AccountType.{AccountType}
 use Rattle.positions.specs.Kinds.{is_net}
@@ -18,31 +18,19 @@ use Rattle.dayend.specs.Cutoff.{any_expiring, asked, automatic, cut_by, cut_cell
 
 -- ── a series that expires today ──
 
-module _ (s : State) where
-  hit : (n i : ℕ) → i < n → expiring s (suc i) ≡ true → any_expiring s n ≡ true
-  hit zero i l h = absurd (omega arith)
-  hit (suc n) i l h =
-      elim (cases_eq i n) [
-        | inl e ↦ or_left (expiring s (suc n)) (any_expiring s n) (subst (λ (k : ℕ). expiring s (suc k) ≡ true) e h)
-        | inr o ↦ or_right (expiring s (suc n)) (any_expiring s n) (hit n i (omega arith) h)
-      ]
-
-  pub expiring_hit : (n i : ℕ) → i < n → expiring s (i + 1) ≡ true → any_expiring s n ≡ true
-  expiring_hit n i l h = hit n i l (subst (λ (k : ℕ). expiring s k ≡ true) (add-one i) h)
-
-  -- the same, row by row
-  pub any_row : (n : ℕ) → n ≤ length s.series.rows → list_any (λ (r : Series). expires r.contract s.previous s.day) (take n s.series.rows) ≡ any_expiring s n
-  any_row zero h = refl
-  any_row (suc n) h =
-      let today : Series → Bool = λ r. expires r.contract s.previous s.day in
-      let k : n ≡ suc n - 1 = omega arith in
-      let here : list_any today (get_or s.series.rows n past_series ∷ []) ≡ expiring s (suc n) =
-      or_comm (today (get_or s.series.rows n past_series)) false ∙ ap (λ (j : ℕ). today (get_or s.series.rows j past_series)) k in
-      ap (list_any today) (take-suc s.series.rows n past_series (omega arith))
-      ∙ list_any-append today (take n s.series.rows) (get_or s.series.rows n past_series ∷ [])
-      ∙ ap (λ (b : Bool). b || list_any today (get_or s.series.rows n past_series ∷ [])) (any_row n (omega arith))
-      ∙ ap (λ (b : Bool). any_expiring s n || b) here
-      ∙ or_comm (any_expiring s n) (expiring s (suc n))
+-- row by row
+pub any_row : (s : State) (n : ℕ) → n ≤ length s.series.rows → list_any (λ (r : Series). expires r.contract s.previous s.day) (take n s.series.rows) ≡ any_expiring s n
+any_row s zero h = refl
+any_row s (suc n) h =
+    let today : Series → Bool = λ r. expires r.contract s.previous s.day in
+    let k : n ≡ suc n - 1 = omega arith in
+    let here : list_any today (get_or s.series.rows n past_series ∷ []) ≡ expiring s (suc n) =
+    or_comm (today (get_or s.series.rows n past_series)) false ∙ ap (λ (j : ℕ). today (get_or s.series.rows j past_series)) k in
+    ap (list_any today) (take-suc s.series.rows n past_series (omega arith))
+    ∙ list_any-append today (take n s.series.rows) (get_or s.series.rows n past_series ∷ [])
+    ∙ ap (λ (b : Bool). b || list_any today (get_or s.series.rows n past_series ∷ [])) (any_row s n (omega arith))
+    ∙ ap (λ (b : Bool). any_expiring s n || b) here
+    ∙ or_comm (any_expiring s n) (expiring s (suc n))
 
 -- ── cells that the cut leaves as they are ──
 

@@ -6,8 +6,8 @@ use Rattle.std.proofs.lemmas.List.Sums.{sum_by_more, sum_by-take-le, sum_by-cons
 use Rattle.std.proofs.lemmas.List.FromFn.{map-range_with_len_more}
 use Rattle.positions.specs.declared.cell.Cell.{Cell}
 use Rattle.positions.specs.Cells.{no_cell}
-use Rattle.settlement.specs.Lines.{line_count, lines_needed, Countable}
-use Rattle.settlement.proofs.LineLaws.{line_count_le, length_series}
+use Rattle.settlement.specs.Lines.{lines_needed, Countable}
+use Rattle.settlement.proofs.LineLaws.{lines_needed_le, length_series}
 use Rattle.ledger.specs.declared.state.Series.{Series}
 use Rattle.ledger.specs.declared.state.State.{State}
 use Rattle.ledger.specs.declared.state.Stage.{Stage}
@@ -43,11 +43,7 @@ countable s f i j lt =
 
 -- at most three for each of 32 accounts
 pub lines_few : (cells : List Cell) → length cells ≤ 32 → lines_needed cells ≤ 96
-lines_few cells h = omega (arith, few cells)
-  where
-    few : (cells : List Cell) → lines_needed cells ≤ 3 * length cells
-    few [] = omega arith
-    few (c ∷ cs) = omega (arith, sum_by-cons line_count c cs, line_count_le c, few cs)
+lines_few cells h = omega (arith, lines_needed_le cells)
 
 -- so many for each series
 pub rows_few : (rows : List Series) → ((i : ℕ) → i < length rows → length (get_or rows i past_series).cells ≡ 32) → rows_needed rows ≤ 96 * length rows

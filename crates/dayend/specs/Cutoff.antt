@@ -1,5 +1,5 @@
 -- The cut: positions are netted, and what is to be exercised is due.
-use Rattle.std.specs.Prelude.{◌≡◌, ℕ, zero, suc, ◌+◌, ◌-◌, ◌<◌, Bool, false, cond, not, ◌&&◌, ◌||◌, List, [], ◌∷◌, take, is_some, Some, None, sum_by, Option, ◌==◌, slice_index, slice_index_or}
+use Rattle.std.specs.Prelude.{◌≡◌, ℕ, zero, suc, ◌+◌, ◌-◌, ◌<◌, Bool, false, cond, not, ◌&&◌, ◌||◌, List, [], ◌∷◌, is_some, Some, None, sum_by, Option, ◌==◌, slice_index, slice_index_or}
 use Rattle.positions.specs.declared.cell.Cell.{Cell}
 use Rattle.positions.specs.declared.criterion.Criterion.{Criterion}
 use Rattle.positions.specs.declared.leg.Leg.{Leg}
@@ -16,7 +16,7 @@ use Rattle.ledger.specs.declared.state.Request.{Request}
 use Rattle.ledger.specs.declared.state.Series.{Series}
 use Rattle.ledger.specs.declared.state.Stage.TheVariants as stage
 use Rattle.ledger.specs.declared.state.State.{State}
-use Rattle.ledger.specs.Tables.{Requests, no_account, row, account_of}
+use Rattle.ledger.specs.Tables.{Requests, no_account, row, in_use, account_of}
 use Rattle.ledger.specs.Lookups.{expiring}
 use Rattle.exercise.specs.Criteria.{criterion_of}
 
@@ -40,7 +40,7 @@ AsksAt r i (Some k) = (k < 32) × ((a : ℕ) → a < 32 → asks (a + 1) i r ≡
 AsksAt r i None = (a : ℕ) → a < 32 → asks (a + 1) i r ≡ 0
 
 abbrev pub asked : Requests → ℕ → ℕ → ℕ
-asked t a i = sum_by (asks a i) (take t.count t.rows)
+asked t a i = sum_by (asks a i) (in_use t)
 
 abbrev pub met_at : Option ℕ → Criterion → Contract → Bool
 met_at None k c = false

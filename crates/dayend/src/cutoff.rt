@@ -1,4 +1,4 @@
-ghost use Rattle.std.specs.Prelude.{◌≡◌, ℕ, false, [], ◌+◌, ◌<◌, ◌≤◌, length, slice_index, slice_index_or};
+ghost use Rattle.std.specs.Prelude.{◌≡◌, ℕ, false, [], ◌+◌, ◌<◌, ◌≤◌, slice_index, slice_index_or};
 ghost use Rattle.draws.specs.Checks.{checked};
 ghost use Rattle.positions.specs.Places.{each};
 ghost use Rattle.ledger.specs.Tables.{RowNumber, no_request, with_listing};
@@ -36,7 +36,7 @@ fn asked_in(requests: &Requests, series: u32) -> [u32; 32]
     ensures { (a : ℕ) → a < 32 → slice_index result a ≡ asked requests.now (a + 1) series }
 {
     let mut wanted = [0; 32];
-    for request in &requests.rows[..requests.count as usize] {
+    for request in requests.in_use() {
         note(&mut wanted, request, series);
     }
     wanted
@@ -47,7 +47,9 @@ fn any_expiring(book: &Ledger) -> bool
     ensures { result ≡ any_expiring book.now.state book.now.state.series.count }
 {
     let state = &book.state;
-    state.series.rows[..state.series.count as usize]
+    state
+        .series
+        .in_use()
         .iter()
         .any(|row| row.contract.expires(state.previous, state.day))
 }

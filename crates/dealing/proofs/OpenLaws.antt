@@ -4,6 +4,7 @@ use Rattle.std.proofs.lemmas.Bool.{and_parts, ltb-true}
 use Rattle.draws.specs.Checks.{first_refusal}
 use Rattle.draws.proofs.Passes.{all_pass}
 use Rattle.positions.specs.Kinds.{type_of_code}
+use Rattle.ledger.specs.declared.state.Opening.{Opening}
 use Rattle.ledger.specs.declared.state.Stage.TheVariants.{Input}
 use Rattle.ledger.specs.declared.state.State.{State}
 use Rattle.ledger.specs.Tables.{opening, new_account}
@@ -13,16 +14,16 @@ use Rattle.ledger.specs.Sound.{Facts}
 use Rattle.ledger.proofs.FactLaws.{within_parts}
 use Rattle.ledger.proofs.KeepLaws.{facts_opening, facts_account, facts_series}
 
-pub facts_opened : (number day size block : ℕ) → first_refusal (open_checks number day size block) ≡ None → Facts (opening number day size block)
-facts_opened number day size block h =
-    let a = (all_pass (open_checks number day size block) h).0 in
-    let b = (and_parts (within number 1 9_999) _ a).1 in
-    let c = and_parts (within day 1 99_999) _ b in
-    let d = and_parts (within size 1 10_000) (within block 1 1_000) c.1 in
-    let days = within_parts day 1 99_999 c.0 in
-    let sizes = within_parts size 1 10_000 d.0 in
-    let blocks = within_parts block 1 1_000 d.1 in
-    facts_opening number day size block sizes.0 sizes.1 blocks.0 blocks.1 days.1
+pub facts_opened : (o : Opening) → first_refusal (open_checks o) ≡ None → Facts (opening o)
+facts_opened o h =
+    let a = (all_pass (open_checks o) h).0 in
+    let b = (and_parts (within o.number 1 9_999) _ a).1 in
+    let c = and_parts (within o.day 1 99_999) _ b in
+    let d = and_parts (within o.size 1 10_000) (within o.block 1 1_000) c.1 in
+    let days = within_parts o.day 1 99_999 c.0 in
+    let sizes = within_parts o.size 1 10_000 d.0 in
+    let blocks = within_parts o.block 1 1_000 d.1 in
+    facts_opening o sizes.0 sizes.1 blocks.0 blocks.1 days.1
 
 pub room_account : (s : State) (participant code : ℕ) → first_refusal (account_checks s participant code) ≡ None → s.accounts.count < 32
 room_account s participant code h = ltb-true _ _ (all_pass (account_checks s participant code) h).1.0

@@ -1,20 +1,21 @@
 -- Opening a book, adding an account, listing a series.
-use Rattle.std.specs.Prelude.{ℕ, Bool, not, ◌&&◌, List, [], ◌∷◌, take, ◌==◌, nat_lt}
+use Rattle.std.specs.Prelude.{ℕ, Bool, not, ◌&&◌, List, [], ◌∷◌, ◌==◌, nat_lt}
 use Rattle.std.specs.List.{list_any}
 use Rattle.positions.specs.Kinds.{right_of_code, type_of_code, same_right}
 use Rattle.ledger.specs.declared.refusal.Refusal.{Refusal}
 use Rattle.ledger.specs.declared.refusal.Refusal.TheVariants.{OutOfRange, ListedAlready, Full}
+use Rattle.ledger.specs.declared.state.Opening.{Opening}
 use Rattle.ledger.specs.declared.state.Contract.{Contract}
 use Rattle.ledger.specs.declared.state.Series.{Series}
 use Rattle.ledger.specs.declared.state.State.{State}
-use Rattle.ledger.specs.Tables.{Listing, new_account, new_series, with_accounts, with_listing, one_account_more, one_series_more}
+use Rattle.ledger.specs.Tables.{Listing, new_account, new_series, in_use, with_accounts, with_listing, one_account_more, one_series_more}
 use Rattle.ledger.specs.Lookups.{within}
 
 -- ── opening ──
 
-abbrev pub open_checks : ℕ → ℕ → ℕ → ℕ → List (Bool × Refusal)
-open_checks number day size block =
-    (within number 1 9_999 && (within day 1 99_999 && (within size 1 10_000 && within block 1 1_000)), OutOfRange)
+abbrev pub open_checks : Opening → List (Bool × Refusal)
+open_checks o =
+    (within o.number 1 9_999 && (within o.day 1 99_999 && (within o.size 1 10_000 && within o.block 1 1_000)), OutOfRange)
     ∷ []
 
 -- ── account ──
@@ -41,7 +42,7 @@ any_same c rows = list_any (λ r. same_contract r.contract c) rows
 
 -- whether a listed series has that contract
 abbrev pub listed : Listing → Contract → Bool
-listed t c = any_same c (take t.count t.rows)
+listed t c = any_same c (in_use t)
 
 abbrev pub series_checks : State → ℕ → ℕ → ℕ → List (Bool × Refusal)
 series_checks s right strike expiry =

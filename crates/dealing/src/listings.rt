@@ -2,17 +2,17 @@ ghost use Rattle.std.specs.Prelude.{◌≡◌, ◌+◌, ◌<◌, ◌≤◌};
 ghost use Rattle.draws.specs.Checks.{checked};
 ghost use Rattle.dealing.specs.Listings.{open_checks, account_checks, account_added, contract_of, listed, series_checks, series_added};
 
-use ledger::{Account, Contract, Listing, Refusal, Series, State, is_within};
+use ledger::{Account, Contract, Listing, Opening, Refusal, Series, State, is_within};
 use positions::{AccountType, Right};
 
 // Why an opening is turned back, if it is.
-pub fn check_open(number: u32, day: u32, size: u32, block: u32) -> Result<(), Refusal>
-    ensures { result ≡ checked (open_checks number day size block) }
+pub fn check_open(o: &Opening) -> Result<(), Refusal>
+    ensures { result ≡ checked (open_checks o.now) }
 {
-    if !is_within(number, 1, 9_999)
-        || !is_within(day, 1, 99_999)
-        || !is_within(size, 1, 10_000)
-        || !is_within(block, 1, 1_000)
+    if !is_within(o.number, 1, 9_999)
+        || !is_within(o.day, 1, 99_999)
+        || !is_within(o.size, 1, 10_000)
+        || !is_within(o.block, 1, 1_000)
     {
         return Err(Refusal::OutOfRange);
     }
@@ -34,8 +34,7 @@ pub fn lists(listing: &Listing, contract: &Contract) -> bool
     requires { listing.now.count ≤ 32 }
     ensures { result ≡ listed listing.now contract.now }
 {
-    let rows = &listing.rows[..listing.count as usize];
-    rows.iter().any(|row| row.contract == *contract)
+    listing.in_use().iter().any(|row| row.contract == *contract)
 }
 
 // Why an account is turned back, if it is.

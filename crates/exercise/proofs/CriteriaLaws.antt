@@ -9,7 +9,7 @@ use Rattle.ledger.specs.declared.state.House.{House}
 use Rattle.ledger.specs.declared.state.State.{State}
 use Rattle.ledger.specs.Tables.{account_of, no_account}
 use Rattle.ledger.specs.Lookups.{within, has_account}
-use Rattle.exercise.specs.Criteria.{form_in_range, criterion_checks, with_house, with_account, criterion_set, fixing_checks, price_fixed, trading_closed, lodge_checks, lodged, withdrawal_checks, collateral_withdrawn}
+use Rattle.exercise.specs.Criteria.{form_in_range, criterion_checks, with_house, with_account, criterion_set, price_fixed, trading_closed, lodge_checks, lodged, collateral_withdrawn}
 use Rattle.ledger.specs.Sound.{Facts}
 use Rattle.ledger.proofs.FactLaws.{account_placed}
 
@@ -58,9 +58,6 @@ facts_criterion s account right form value f =
 
 -- ── fixing price and the end of trading ──
 
-pub fixing_range : (price : ℕ) → first_refusal (fixing_checks price) ≡ None → within price 1 1_000_000 ≡ true
-fixing_range price h = (all_pass (fixing_checks price) h).0
-
 pub facts_fixed : (s : State) (price : ℕ) → Facts s → Facts (price_fixed s price)
 facts_fixed s price f = facts_aside s s.house (Some price) s.trading f
 
@@ -79,14 +76,6 @@ lodgeable s account shares h = let p = all_pass (lodge_checks s account shares) 
 
 pub facts_lodged : (s : State) (account shares : ℕ) → Facts s → Lodgeable s account shares → Facts (lodged s account shares)
 facts_lodged s account shares f a = facts_with_account s account _ f a.room
-
-pub record Withdrawable (s : State) (account shares : ℕ) : Type 0 where
-  pub range : within shares 1 99_999_999 ≡ true
-  pub known : has_account s account ≡ true
-  pub there : shares ≤ (account_of s account).collateral
-
-pub withdrawable : (s : State) (account shares : ℕ) → first_refusal (withdrawal_checks s account shares) ≡ None → Withdrawable s account shares
-withdrawable s account shares h = let p = all_pass (withdrawal_checks s account shares) h in record { range = p.0; known = p.1.0; there = leb-true _ _ p.1.1.0 }
 
 pub facts_withdrawn : (s : State) (account shares : ℕ) → Facts s → Facts (collateral_withdrawn s account shares)
 facts_withdrawn s account shares f = facts_with_account s account _ f (omega (arith, f.collateral (account - 1)))

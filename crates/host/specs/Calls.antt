@@ -2,7 +2,7 @@
 use Rattle.std.specs.Prelude.{ℕ, cond, List, Some, None, Option, ◌==◌, slice_index}
 use Rattle.ledger.specs.declared.state.Trade.{Trade}
 use Rattle.ledger.specs.declared.state.PositionTransfer.{PositionTransfer}
-use Rattle.register.specs.declared.calls.Opening.{Opening}
+use Rattle.ledger.specs.declared.state.Opening.{Opening}
 use Rattle.register.specs.declared.calls.InputCall.{InputCall}
 use Rattle.register.specs.declared.calls.InputCall.TheVariants.{AddAccount, ListSeries, BookTrade, TransferTrade, GiveUpLeg, TakeUpLeg, TransferPosition}
 use Rattle.register.specs.declared.calls.ExerciseCall.{ExerciseCall}

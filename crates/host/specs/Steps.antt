@@ -43,7 +43,7 @@ no_book u ps = record { reply = record { number = 1; result = 0 }; after = recor
 
 -- only an opening can be accepted
 abbrev pub start_step : List ℕ → List Line → Call → Step
-start_step u ps (Open o) = record { reply = open_reply (open_call o.number o.day o.size o.block); after = record { desk = opened_desk (open_call o.number o.day o.size o.block); unread = u; places = ps } }
+start_step u ps (Open o) = record { reply = open_reply (open_call o); after = record { desk = opened_desk (open_call o); unread = u; places = ps } }
 start_step u ps (OfInput c) = no_book u ps
 start_step u ps (OfExercise c) = no_book u ps
 start_step u ps CutOff = no_book u ps

@@ -7,7 +7,7 @@ use crate::unread::Unread;
 use book::{Book, Pass};
 use draws::{Draws, Reply, Tape};
 use ledger::Refusal;
-use register::{Call, Done, perform};
+use register::{Call, Done, Opening, perform};
 use settlement::Line;
 
 // Reply and result of an answer.
@@ -22,7 +22,13 @@ pub(crate) fn reply_of(answer: Result<u32, Refusal>) -> Reply
 
 // A book that nothing can be called of, since its pass is let go.
 pub(crate) fn idle() -> Book {
-    let Ok((book, _)) = Book::open(1, 1, 1, 1) else {
+    let first = Opening {
+        number: 1,
+        day: 1,
+        size: 1,
+        block: 1,
+    };
+    let Ok((book, _)) = Book::open(&first) else {
         unreachable()
     };
     book

@@ -72,7 +72,7 @@ impl Host {
         ensures brief { Brief (replied result) }
         ensures after { shown self.new ≡ (start_step (unread_of self.old.unread) self.old.places (Open o.now)).after }
     {
-        let (book, pass) = Book::open(o.number, o.day, o.size, o.block)?;
+        let (book, pass) = Book::open(o)?;
         self.book = book;
         self.pass = Some(Pass::ForInput(pass));
         Ok(0)

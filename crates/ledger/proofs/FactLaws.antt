@@ -1,20 +1,17 @@
 -- What every book keeps, put to use.
-use Rattle.std.proofs.Common.{◌≡◌, ℕ, ◌-◌, ◌<◌, ◌≤◌, true, leb, List, length, get_or, sym, subst, inl, inr, arith}
+use Rattle.std.proofs.Common.{◌≡◌, ℕ, ◌-◌, ◌≤◌, true, leb, get_or, sym, subst, arith}
 use mathlib.Core.Logic.{∥∥₁_elim}
 use denote.Struct.Props.{props}
-use Rattle.std.proofs.lemmas.List.{get_or_past}
-use Rattle.std.proofs.lemmas.List.Sums.{get_or-le-sum_by}
-use Rattle.std.proofs.lemmas.Bool.{cases_lt, and_parts, leb-true}
+use Rattle.std.proofs.lemmas.Bool.{and_parts, leb-true}
 use Rattle.positions.specs.declared.cell.Cell.{Cell}
 use Rattle.positions.specs.Cells.{no_cell}
 use Rattle.positions.specs.Legs.{no_leg}
-use Rattle.positions.specs.Rows.{Below}
 use Rattle.ledger.specs.declared.state.Stage.{Stage}
 use Rattle.ledger.specs.declared.state.Stage.TheVariants.{Input, Cut, Assigned}
 use Rattle.ledger.specs.declared.state.State.{State}
 use Rattle.ledger.specs.Tables.{cells_of}
 use Rattle.ledger.specs.Lookups.{within, has_account, has_series, has_leg}
-use Rattle.ledger.specs.Sound.{Ranges, Tables, Balanced, Waiting, AllBalanced, AllWaiting, Strikes, Unlisted, ValidLeg, AllValid, AllAsked, Collateral, Facts, Sound}
+use Rattle.ledger.specs.Sound.{Ranges, Tables, Waiting, AllBalanced, AllWaiting, Strikes, Unlisted, ValidLeg, AllValid, AllAsked, Collateral, Facts, Sound}
 
 -- ── a fact has one proof at most ──
 
@@ -89,15 +86,3 @@ series_placed s n f h = let a = within_parts n 1 s.series.count h in record { fr
 
 pub leg_valid : (s : State) (n : ℕ) → Facts s → has_leg s n ≡ true → ValidLeg s (get_or s.legs.rows (n - 1) no_leg)
 leg_valid s n f h = let w = within_parts n 1 s.legs.count h in f.valid (n - 1) (omega (arith, w.0, w.1))
-
--- ── bounds ──
-
-pub balanced_below : (cells : List Cell) → Balanced cells → Below cells 100_000
-balanced_below cells b j =
-    elim (cases_lt j (length cells)) [
-      | inl h ↦ (omega (arith, get_or-le-sum_by (λ (c : Cell). c.longs) cells j no_cell h, b.1.1), omega (arith, get_or-le-sum_by (λ (c : Cell). c.shorts) cells j no_cell h, b.1.1, b.1.0))
-      | inr h ↦ simp get_or_past (omega arith, omega arith)
-    ]
-
-pub series_below : (s : State) (i : ℕ) → i < 32 → Facts s → Below (cells_of s i) 100_000
-series_below s i h f = balanced_below (cells_of s i) (f.balanced i h)

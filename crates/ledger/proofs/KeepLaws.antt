@@ -7,6 +7,7 @@ use Rattle.positions.specs.Cells.{no_cell}
 use Rattle.positions.specs.Legs.{no_leg}
 use Rattle.positions.specs.Rows.{total_longs}
 use Rattle.positions.proofs.RowLaws.{at_set}
+use Rattle.ledger.specs.declared.state.Opening.{Opening}
 use Rattle.ledger.specs.declared.state.Account.{Account}
 use Rattle.ledger.specs.declared.state.Contract.{Contract}
 use Rattle.ledger.specs.declared.state.Request.{Request}
@@ -33,8 +34,8 @@ new_balanced c = (refl, (refl, omega arith), (refl, omega arith))
 calm : (c : Contract) (j : ℕ) → Waiting Input (get_or (new_series c).cells j no_cell)
 calm c j = all_same (Waiting Input) 32 no_cell no_cell j (refl, omega arith) (refl, omega arith)
 
-pub facts_opening : (number day size block : ℕ) → 1 ≤ size → size ≤ 10_000 → 1 ≤ block → block ≤ 1_000 → day ≤ 99_999 → Facts (opening number day size block)
-facts_opening number day size block s₁ s₂ b₁ b₂ d = record {
+pub facts_opening : (o : Opening) → 1 ≤ o.size → o.size ≤ 10_000 → 1 ≤ o.block → o.block ≤ 1_000 → o.day ≤ 99_999 → Facts (opening o)
+facts_opening o s₁ s₂ b₁ b₂ d = record {
   ranges = ((s₁, s₂), (b₁, b₂), d);
   tables = ((omega arith, omega arith, omega arith, omega arith), (refl, refl, refl, refl));
   balanced = λ i h. all_within (λ (r : Series). Balanced r.cells) 32 (new_series no_contract) past_series i h (new_balanced no_contract);

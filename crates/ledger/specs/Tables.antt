@@ -1,5 +1,5 @@
 -- The tables of a book, at its opening and with a row changed.
-use Rattle.std.specs.Prelude.{ℕ, ◌+◌, ◌-◌, ◌≤◌, true, false, List, [], replicate, None, slice_index_or, slice_set}
+use Rattle.std.specs.Prelude.{ℕ, ◌+◌, ◌-◌, ◌≤◌, true, false, List, [], take, replicate, None, slice_index_or, slice_set}
 use Rattle.positions.specs.declared.cell.Cell.{Cell}
 use Rattle.positions.specs.declared.leg.Leg.{Leg}
 use Rattle.positions.specs.declared.leg.LegEvent.{LegEvent}
@@ -10,6 +10,7 @@ use Rattle.positions.specs.declared.criterion.Criterion.TheVariants.{Amount}
 use Rattle.positions.specs.Cells.{no_cell}
 use Rattle.positions.specs.Legs.{no_leg, rebooked, stepped}
 use Rattle.ledger.specs.declared.state.Stage.TheVariants as stage
+use Rattle.ledger.specs.declared.state.Opening.{Opening}
 use Rattle.ledger.specs.declared.state.Account.{Account}
 use Rattle.ledger.specs.declared.state.Contract.{Contract}
 use Rattle.ledger.specs.declared.state.Series.{Series}
@@ -59,10 +60,10 @@ no_request = record { account = 0; series = 0; quantity = 0; pending = false }
 abbrev pub empty_table : {T : Type 0} → (size : ℕ) → T → Table T size
 empty_table size r = record { rows = replicate size r; count = 0 }
 
-abbrev pub opening : ℕ → ℕ → ℕ → ℕ → State
-opening number day size block = record {
-  terms = record { number = number; size = size; block = block };
-  day = day;
+abbrev pub opening : Opening → State
+opening o = record {
+  terms = record { number = o.number; size = o.size; block = o.block };
+  day = o.day;
   previous = 0;
   stage = stage.Input;
   trading = true;
@@ -93,6 +94,10 @@ RowNumber size n = (1 ≤ n) × (n ≤ size)
 -- a table's row by its number; d past the table's end
 abbrev pub row_of : {T : Type 0} {size : ℕ} → Table T size → ℕ → T → T
 row_of t n d = slice_index_or t.rows (n - 1) d
+
+-- the first rows, as many as are in use
+abbrev pub in_use : {T : Type 0} {size : ℕ} → Table T size → List T
+in_use t = take t.count t.rows
 
 abbrev pub account_of : State → ℕ → Account
 account_of s n = row_of s.accounts n no_account

@@ -11,6 +11,6 @@ pub use ledger::Ledger;
 pub use lookups::{is_free, is_held_for, is_within};
 pub use refusal::Refusal;
 pub use state::{
-    Account, Accounts, Contract, House, Legs, Listing, PositionTransfer, Request, Requests, Series,
-    Stage, State, Table, Terms, Trade,
+    Account, Accounts, Contract, House, Legs, Listing, Opening, PositionTransfer, Request,
+    Requests, Series, Stage, State, Table, Terms, Trade,
 };

@@ -8,6 +8,15 @@ pub enum Stage {
     Assigned,
 }
 
+// The numbers of an opening.
+#[derive(Clone, Copy, Debug, PartialEq, Eq)]
+pub struct Opening {
+    pub number: u32,
+    pub day: u32,
+    pub size: u32,
+    pub block: u32,
+}
+
 // What is fixed at the opening.
 #[derive(Clone, Copy, Debug, PartialEq, Eq)]
 pub struct Terms {

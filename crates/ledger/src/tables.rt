@@ -1,5 +1,5 @@
 ghost use Rattle.std.specs.Prelude.{◌≡◌, ◌+◌, ◌<◌, ◌≤◌};
-ghost use Rattle.ledger.specs.Tables.{new_account, new_series, opening, cells_of, with_cells, empty_table, RowNumber, row_of, one_more, leg_rebooked, leg_stepped};
+ghost use Rattle.ledger.specs.Tables.{new_account, new_series, opening, cells_of, with_cells, empty_table, RowNumber, row_of, in_use, one_more, leg_rebooked, leg_stepped};
 ghost use Rattle.ledger.specs.Lookups.{has};
 
 use crate::state::*;
@@ -13,16 +13,16 @@ const NO_CONTRACT: Contract = Contract {
 
 impl State {
     // A book as it opens.
-    pub fn opening(number: u32, day: u32, size: u32, block: u32) -> State
-        ensures { result ≡ opening number day size block }
+    pub fn opening(o: &Opening) -> State
+        ensures { result ≡ opening o.now }
     {
         State {
             terms: Terms {
-                number,
-                size,
-                block,
+                number: o.number,
+                size: o.size,
+                block: o.block,
             },
-            day,
+            day: o.day,
             previous: 0,
             stage: Stage::Input,
             trading: true,
@@ -106,6 +106,14 @@ impl<T: Copy, const N: usize> Table<T, N> {
         ensures { (d : T) → result.now ≡ row_of self.now n d }
     {
         &self.rows[n as usize - 1]
+    }
+
+    // The rows in use.
+    pub fn in_use(&self) -> &[T]
+        requires { self.now.count ≤ N }
+        ensures { result.now ≡ in_use self.now }
+    {
+        &self.rows[..self.count as usize]
     }
 
     // One row more; its number.

@@ -1,5 +1,5 @@
 -- What a leg, a transfer or a move does to one cell's longs and shorts.
-use Rattle.std.proofs.Common.{◌≡◌, ℕ, ◌+◌, ◌≤◌, min, Bool, refl, ap, arith}
+use Rattle.std.proofs.Common.{◌≡◌, ℕ, ◌+◌, ◌≤◌, Bool, refl, arith}
 use Rattle.positions.specs.declared.cell.Cell.{Cell}
 use Rattle.positions.specs.declared.kinds.AccountType.{AccountType}
 use Rattle.positions.specs.declared.kinds.AccountType.TheVariants.{House, MarketMaker, IndividualClient, OmnibusClient}
@@ -7,7 +7,7 @@ use Rattle.positions.specs.declared.kinds.Side.{Side}
 use Rattle.positions.specs.declared.kinds.Side.TheVariants.{Buy, Sell}
 use Rattle.positions.specs.declared.kinds.Effect.{Effect}
 use Rattle.positions.specs.declared.kinds.Effect.TheVariants.{Opening, Closing}
-use Rattle.positions.specs.Cells.{closing, booked, unbooked, netted, with_due, undenied}
+use Rattle.positions.specs.Cells.{closing, booked, unbooked, netted, with_due}
 
 pub closing_le : (c : Cell) (side : Side) (e : Effect) (q : ℕ) → closing c side e q ≤ q
 closing_le c side Opening q = omega arith
@@ -30,14 +30,6 @@ unbought c rest closed h = omega arith
 pub unsold : (c : Cell) (rest closed : ℕ) → rest ≤ c.shorts → (unbooked c Sell rest closed).longs + c.shorts ≡ c.longs + (rest + closed) + (unbooked c Sell rest closed).shorts
 unsold c rest closed h = omega arith
 
-pub booked_below : (c : Cell) (side : Side) (e : Effect) (q : ℕ) → ((booked c side e q).longs ≤ c.longs + q) × ((booked c side e q).shorts ≤ c.shorts + q)
-booked_below c Buy e q = (omega arith, omega arith)
-booked_below c Sell e q = (omega arith, omega arith)
-
-pub unbooked_below : (c : Cell) (side : Side) (rest closed m : ℕ) → c.longs ≤ m → c.shorts ≤ m → ((unbooked c side rest closed).longs ≤ m + closed) × ((unbooked c side rest closed).shorts ≤ m + closed)
-unbooked_below c Buy rest closed m l s = (omega arith, omega arith)
-unbooked_below c Sell rest closed m l s = (omega arith, omega arith)
-
 -- what the netting does to one cell
 pub record Netting (c d : Cell) : Type 0 where
   pub even : d.longs + c.shorts ≡ c.longs + d.shorts
@@ -56,9 +48,3 @@ netting OmnibusClient c = record { even = omega arith; longs = omega arith; shor
 
 pub due_le : (c : Cell) (asked : ℕ) (automatic : Bool) → (with_due c asked automatic).due ≤ c.longs
 due_le c asked automatic = omega arith
-
--- with no longs nothing is due
-pub none_due : (c : Cell) (m n : ℕ) (p q : Bool) → c.longs ≡ 0 → with_due c m p ≡ with_due c n q
-none_due c m n p q h =
-    let e : min c.longs (m + undenied c p) ≡ min c.longs (n + undenied c q) = omega arith in
-    ap (λ (due : ℕ). record { longs = c.longs; shorts = c.shorts; denied = c.denied; due = due; exercised = c.exercised; assigned = c.assigned; covered = c.covered }) e

@@ -13,17 +13,6 @@ abbrev pub first : {X : Type 0} → ℕ → (ℕ → X → X) → List X → Lis
 first m f xs = first_from 0 m f xs
 
 module _ {X : Type 0} (f : ℕ → X → X) where
-  pub first_none : (xs : List X) → first 0 f xs ≡ xs
-  first_none xs = refl
-
-  length_from : (n m : ℕ) (xs : List X) → length (first_from n m f xs) ≡ length xs
-  length_from n zero xs = refl
-  length_from n (suc m) [] = refl
-  length_from n (suc m) (x ∷ xs) = ap suc (length_from (suc n) m xs)
-
-  pub length_first : (m : ℕ) (xs : List X) → length (first m f xs) ≡ length xs
-  length_first m xs = length_from 0 m xs
-
   untouched_from : (n m : ℕ) (xs : List X) (d : X) → get_or (first_from n m f xs) m d ≡ get_or xs m d
   untouched_from n zero xs d = refl
   untouched_from n (suc m) [] d = refl

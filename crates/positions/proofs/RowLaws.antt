@@ -1,13 +1,12 @@
 -- The cells of one series.
-use Rattle.std.proofs.Common.{◌≡◌, ℕ, zero, suc, ◌+◌, ◌<◌, ◌≤◌, List, [], ◌∷◌, length, get_or, set, sum_by, arith}
+use Rattle.std.proofs.Common.{◌≡◌, ℕ, zero, suc, ◌+◌, ◌<◌, List, [], ◌∷◌, length, get_or, set, sum_by, arith}
 use Rattle.std.proofs.lemmas.List.Sums.{sum_by-set}
 use Rattle.positions.specs.declared.cell.Cell.{Cell}
-use Rattle.positions.specs.declared.kinds.Side.{Side}
 use Rattle.positions.specs.declared.kinds.Side.TheVariants.{Buy, Sell}
 use Rattle.positions.specs.declared.kinds.Effect.{Effect}
 use Rattle.positions.specs.Cells.{no_cell, booked}
-use Rattle.positions.specs.Rows.{placed, total_longs, total_shorts, Below}
-use Rattle.positions.proofs.CellLaws.{bought, sold, booked_below}
+use Rattle.positions.specs.Rows.{placed, total_longs, total_shorts}
+use Rattle.positions.proofs.CellLaws.{bought, sold}
 
 -- what holds of a new element and of the old ones holds of each
 pub at_set : {X : Type 0} (P : X → Type 0) (xs : List X) (at j : ℕ) (y d : X) → P y → P (get_or xs j d) → P (get_or (set xs at y) j d)
@@ -20,18 +19,6 @@ at_set P (x ∷ xs) (suc at) (suc j) y d new old = at_set P xs at j y d new old
 -- a sum that an element's replacement does not touch
 pub sum_kept : (f : Cell → ℕ) (cells : List Cell) (at : ℕ) (c : Cell) → at < length cells → f c ≡ f (get_or cells at no_cell) → sum_by f (set cells at c) ≡ sum_by f cells
 sum_kept f cells at c h same = omega (arith, sum_by-set f cells at c no_cell h)
-
-pub set_below : (cells : List Cell) (m at : ℕ) (c : Cell) → c.longs ≤ m → c.shorts ≤ m → Below cells m → Below (set cells at c) m
-set_below cells m at c l s b j = at_set (λ (c : Cell). (c.longs ≤ m) × (c.shorts ≤ m)) cells at j c no_cell (l, s) (b j)
-
-pub below_more : (cells : List Cell) (m n : ℕ) → m ≤ n → Below cells m → Below cells n
-below_more cells m n le b j = let l = b j in (omega (arith, l.0), omega (arith, l.1))
-
-pub placed_below : (cells : List Cell) (m at : ℕ) (side : Side) (e : Effect) (q : ℕ) → Below cells m → Below (placed cells at side e q) (m + q)
-placed_below cells m at side e q b =
-    let k = booked_below (get_or cells at no_cell) side e q in
-    let l = b at in
-    set_below cells (m + q) at (booked (get_or cells at no_cell) side e q) (omega (arith, k.0, l.0)) (omega (arith, k.1, l.1)) (below_more cells m (m + q) (omega arith) b)
 
 -- a leg moves the series' longs less shorts by its quantity
 module _ (cells : List Cell) (at : ℕ) (e : Effect) (q : ℕ) (lt : at < length cells) where

@@ -15,6 +15,7 @@ use Rattle.ledger.specs.declared.state.Account.{Account}
 use Rattle.ledger.specs.declared.state.Contract.{Contract}
 use Rattle.ledger.specs.declared.state.Series.{Series}
 use Rattle.ledger.specs.declared.state.Stage.TheVariants.{Input}
+use Rattle.ledger.specs.declared.state.Opening.{Opening}
 use Rattle.ledger.specs.declared.state.State.{State}
 use Rattle.ledger.specs.declared.state.Trade.{Trade}
 use Rattle.ledger.specs.declared.state.PositionTransfer.{PositionTransfer}
@@ -33,8 +34,8 @@ use Rattle.register.proofs.BalanceLaws.{Differs, differs_booked, differs_unbooke
 
 -- ── the opening ──
 
-pub tied_opening : (number day size block : ℕ) → Tied (record { balance = λ a i. pos 0; legs = [] }) (opening number day size block)
-tied_opening number day size block = record {
+pub tied_opening : (o : Opening) → Tied (record { balance = λ a i. pos 0; legs = [] }) (opening o)
+tied_opening o = record {
   cells = λ i il ih a al ah.
       all_same (λ (r : Series). Differs (get_or r.cells (a - 1) no_cell) (pos 0)) 32 (new_series no_contract) past_series (i - 1)
       (all_same (λ (c : Cell). Differs c (pos 0)) 32 no_cell no_cell (a - 1) refl refl) refl;

@@ -9,6 +9,7 @@ use Rattle.positions.specs.declared.leg.LegEvent.TheVariants.{GiveUp, Confirm, R
 use Rattle.ledger.specs.declared.refusal.Refusal.{Refusal}
 use Rattle.ledger.specs.declared.refusal.Refusal.TheVariants.{PassMisfit, OutOfRange, NoAccount, NoSeries, NoLeg, NoRequest, Expired, TradingClosed, WrongAccount, LegHeld, LegFree, NotExpiring, ListedAlready, NoFixingPrice, DayNotLater, DrawsShort, StatementShort, Full, TooFew, TooMany}
 use Rattle.ledger.specs.declared.state.Stage.TheVariants.{Input}
+use Rattle.ledger.specs.declared.state.Opening.{Opening}
 use Rattle.ledger.specs.declared.state.State.{State}
 use Rattle.ledger.specs.Replies.{reply_of}
 use Rattle.ledger.specs.Tables.{new_account}
@@ -23,7 +24,6 @@ use Rattle.transfers.proofs.PositionLaws.{transferable, facts_moved}
 use Rattle.book.specs.declared.pass.InputPass.{InputPass}
 use Rattle.book.specs.declared.pass.Pass.{Pass}
 use Rattle.book.specs.declared.pass.Pass.TheVariants.{ForInput, ForCut, ForAssigned}
-use Rattle.register.specs.declared.calls.Opening.{Opening}
 use Rattle.register.specs.declared.calls.InputCall.{InputCall}
 use Rattle.register.specs.declared.calls.InputCall.TheVariants.{AddAccount, ListSeries, BookTrade, TransferTrade, GiveUpLeg, TakeUpLeg, TransferPosition}
 use Rattle.register.specs.declared.calls.Call.{Call}
@@ -214,5 +214,5 @@ step s y m room (ForAssigned p) (BeginDay day) reply b k e =
     record { tied = tied_next_day y s day k.tied; sound = facts_next_day s day k.sound (is_later s day u.1) }) e
 
 pub always : (o : Opening) (r : List Entry) → Truthful o r → Kept (count o r) (given o r)
-always o [] h = record { tied = tied_opening o.number o.day o.size o.block; sound = facts_opened o.number o.day o.size o.block h }
+always o [] h = record { tied = tied_opening o; sound = facts_opened o h }
 always o (e ∷ r) h = step (given o r) (count o r) e.before e.room e.pass e.call e.reply h.0.below (always o r h.1) h.0.reply

@@ -10,6 +10,7 @@ use Rattle.positions.specs.Cells.{no_cell}
 use Rattle.ledger.specs.declared.refusal.Refusal.{Refusal}
 use Rattle.ledger.specs.declared.refusal.Refusal.TheVariants.{PassMisfit, DrawsShort}
 use Rattle.ledger.specs.declared.state.Series.{Series as Listed}
+use Rattle.ledger.specs.declared.state.Opening.{Opening}
 use Rattle.ledger.specs.declared.state.State.{State}
 use Rattle.ledger.specs.Tables.{cell_at}
 use Rattle.dayend.specs.Assignment.{needed, assigning, assigned_state}
@@ -19,7 +20,6 @@ use Rattle.dayend.proofs.AssignedLaws.{at_place, supply_spent}
 use Rattle.book.specs.declared.pass.CutPass.{CutPass}
 use Rattle.book.specs.declared.pass.Pass.{Pass}
 use Rattle.book.specs.declared.pass.Pass.TheVariants.{ForInput, ForCut, ForAssigned}
-use Rattle.register.specs.declared.calls.Opening.{Opening}
 use Rattle.register.specs.declared.calls.Call.{Call}
 use Rattle.register.specs.declared.calls.Call.TheVariants.{Open, OfInput, OfExercise, CutOff, Assign, GiveStatement, BeginDay}
 use Rattle.book.specs.Stages.{fits_cut, kept_or, replied_with, assignment_refusal, statement_refusal}

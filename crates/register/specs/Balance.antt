@@ -5,11 +5,11 @@ use Rattle.positions.specs.declared.kinds.Side.TheVariants.{Buy, Sell}
 use Rattle.positions.specs.Kinds.{side_of_code}
 use Rattle.ledger.specs.declared.state.Trade.{Trade}
 use Rattle.ledger.specs.declared.state.PositionTransfer.{PositionTransfer}
+use Rattle.ledger.specs.declared.state.Opening.{Opening}
 use Rattle.ledger.specs.declared.state.State.{State}
 use Rattle.ledger.specs.Tables.{cell_at}
 use Rattle.ledger.specs.Lookups.{expiring}
 use Rattle.transfers.specs.Transfers.{confirms}
-use Rattle.register.specs.declared.calls.Opening.{Opening}
 use Rattle.register.specs.declared.calls.InputCall.{InputCall}
 use Rattle.register.specs.declared.calls.InputCall.TheVariants.{AddAccount, ListSeries, BookTrade, TransferTrade, GiveUpLeg, TakeUpLeg, TransferPosition}
 use Rattle.register.specs.declared.calls.Call.{Call}

@@ -27,7 +27,7 @@ after_calls s [] = s
 after_calls s (c ∷ cs) = after_calls (answer s (tape [] 0) 0 (ForInput (record { number = 7; day = 100 })) c).state cs
 
 abbrev pub session : State
-session = after_calls (opening 7 100 500 3)
+session = after_calls (opening (record { number = 7; day = 100; size = 500; block = 3 }))
     (OfInput (AddAccount 11 1)
     ∷ OfInput (AddAccount 12 4)
     ∷ OfInput (ListSeries 1 50_000 100)

@@ -2,13 +2,13 @@
 use Rattle.std.specs.Prelude.{◌≡◌, ℕ, ◌+◌, ◌-◌, ◌<◌, ◌≤◌, true, cond, List, [], ◌∷◌, pos, ◌+ℤ◌, neg_ℤ, sum_by, ◌==◌}
 use Rattle.positions.specs.declared.cell.Cell.{Cell}
 use Rattle.positions.specs.Rows.{total_longs, total_shorts}
+use Rattle.ledger.specs.declared.state.Opening.{Opening}
 use Rattle.ledger.specs.declared.state.State.{State}
 use Rattle.ledger.specs.Tables.{cells_of, cell_at}
 use Rattle.dayend.specs.Assignment.{needed}
 use Rattle.settlement.specs.declared.line.Line.{Line}
 use Rattle.book.specs.declared.pass.CutPass.{CutPass}
 use Rattle.book.specs.declared.pass.Pass.TheVariants.{ForCut}
-use Rattle.register.specs.declared.calls.Opening.{Opening}
 use Rattle.register.specs.declared.calls.Call.{Call}
 use Rattle.register.specs.declared.calls.Call.TheVariants.{Open, OfInput, OfExercise, CutOff, Assign, GiveStatement, BeginDay}
 use Rattle.book.specs.Stages.{fits_cut}

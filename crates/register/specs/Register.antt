@@ -5,6 +5,7 @@ use Rattle.draws.specs.Checks.{first_refusal}
 use Rattle.draws.specs.Meaning.{Meaning, Below}
 use Rattle.ledger.specs.declared.refusal.Refusal.{Refusal}
 use Rattle.ledger.specs.declared.refusal.Refusal.TheVariants.{PassMisfit}
+use Rattle.ledger.specs.declared.state.Opening.{Opening}
 use Rattle.ledger.specs.declared.state.State.{State}
 use Rattle.ledger.specs.Replies.{reply_of}
 use Rattle.ledger.specs.Tables.{opening}
@@ -19,7 +20,6 @@ use Rattle.book.specs.declared.pass.AssignedPass.{AssignedPass}
 use Rattle.book.specs.declared.pass.InputPass.{InputPass}
 use Rattle.book.specs.declared.pass.Pass.{Pass}
 use Rattle.book.specs.declared.pass.Pass.TheVariants.{ForInput, ForCut, ForAssigned}
-use Rattle.register.specs.declared.calls.Opening.{Opening}
 use Rattle.register.specs.declared.calls.InputCall.{InputCall}
 use Rattle.register.specs.declared.calls.InputCall.TheVariants.{AddAccount, ListSeries, BookTrade, TransferTrade, GiveUpLeg, TakeUpLeg, TransferPosition}
 use Rattle.register.specs.declared.calls.ExerciseCall.{ExerciseCall}
@@ -149,7 +149,7 @@ answer_to s e = answer s e.before e.room e.pass e.call
 
 -- the state that the rules give after the register's calls, the newest first
 abbrev pub given : Opening → List Entry → State
-given o [] = opening o.number o.day o.size o.block
+given o [] = opening o
 given o (e ∷ r) = (answer_to (given o r) e).state
 
 -- the entry says what the rules give its call, and its source keeps the rule for answers
@@ -161,7 +161,7 @@ pub record True (s : State) (e : Entry) : Type 0 where
 
 -- the opening was accepted, and every entry is true
 abbrev pub Truthful : Opening → List Entry → Type 0
-Truthful o [] = first_refusal (open_checks o.number o.day o.size o.block) ≡ None
+Truthful o [] = first_refusal (open_checks o) ≡ None
 Truthful o (e ∷ r) = True (given o r) e × Truthful o r
 
 -- a register that leads to the state s

@@ -1,14 +1,5 @@
 use book::Pass;
-use ledger::{PositionTransfer, Refusal, Trade};
-
-// The numbers of an opening.
-#[derive(Clone, Copy, Debug, PartialEq, Eq)]
-pub struct Opening {
-    pub number: u32,
-    pub day: u32,
-    pub size: u32,
-    pub block: u32,
-}
+use ledger::{Opening, PositionTransfer, Refusal, Trade};
 
 // A call of the input stage, with its fields.
 // Kept: codes stay the archive's numbers, since a number that is no code is a call to be turned back.

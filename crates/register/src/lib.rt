@@ -5,5 +5,6 @@
 mod calls;
 mod performing;
 
-pub use calls::{Call, Done, ExerciseCall, InputCall, Opening};
+pub use calls::{Call, Done, ExerciseCall, InputCall};
+pub use ledger::Opening;
 pub use performing::perform;

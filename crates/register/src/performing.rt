@@ -1,12 +1,8 @@
-ghost use Rattle.std.specs.Prelude.{◌≡◌, List, ◌∷◌, length, Err};
+ghost use Rattle.std.specs.Prelude.{◌≡◌, List, ◌∷◌, length};
 ghost use Rattle.std.specs.List.{AllByRecursion};
-ghost use Rattle.ledger.specs.declared.refusal.Refusal.TheVariants.{PassMisfit};
 ghost use Rattle.book.specs.declared.pass.Pass.TheVariants.{ForInput, ForCut, ForAssigned};
 ghost use Rattle.settlement.specs.Lines.{written};
-ghost use Rattle.dayend.specs.Cutoff.{cut};
-ghost use Rattle.dayend.specs.NextDay.{next_day};
-ghost use Rattle.book.specs.Stages.{kept_or, replied_with, cut_refusal, cut_pass, next_day_refusal, next_pass};
-ghost use Rattle.register.specs.declared.calls.Opening.{Opening};
+ghost use Rattle.ledger.specs.declared.state.Opening.{Opening};
 ghost use Rattle.register.specs.Register.{input_answer, exercise_answer, answer, replied, Brief, Fits, Entry, entry, Leads};
 ghost use Rattle.register.specs.Performed.{after_of};
 ghost use Rattle.register.specs.Examples.{Examples};
@@ -18,13 +14,11 @@ use draws::Draws;
 use ledger::Refusal;
 use settlement::Line;
 
-fn misfit(pass: Pass) -> Done
-    ensures { result ≡ record { pass = pass; reply = Err PassMisfit } }
+// What a call answers, with the pass that is good after it.
+fn answered(pass: Pass, reply: Result<u32, Refusal>) -> Done
+    ensures { result ≡ record { pass = pass; reply = reply } }
 {
-    Done {
-        pass,
-        reply: Err(Refusal::PassMisfit),
-    }
+    Done { pass, reply }
 }
 
 // A call of the input stage under its pass.
@@ -81,41 +75,6 @@ fn exercise_call(book: &mut Book, pass: &InputPass, call: &ExerciseCall) -> Resu
     }
 }
 
-// The cut, with the pass that is good after it.
-// Kept: one generic end for the cut, the assignment and the next day needs a From of each pass, and is longer.
-fn end_input(book: &mut Book, pass: InputPass) -> Done
-    ensures done { result ≡ record { pass = kept_or (cut_refusal book.old.state pass) (ForInput pass) (ForCut (cut_pass pass)); reply = replied_with (cut_refusal book.old.state pass) 0 } }
-    ensures after { book.new.state ≡ kept_or (cut_refusal book.old.state pass) book.old.state (cut book.old.state) }
-{
-    match book.cut(pass) {
-        Ok(next) => Done {
-            pass: Pass::ForCut(next),
-            reply: Ok(0),
-        },
-        Err((pass, refusal)) => Done {
-            pass: Pass::ForInput(pass),
-            reply: Err(refusal),
-        },
-    }
-}
-
-// The next day, with the pass that is good after it.
-fn end_day(book: &mut Book, pass: AssignedPass, day: u32) -> Done
-    ensures done { result ≡ record { pass = kept_or (next_day_refusal book.old.state pass day) (ForAssigned pass) (ForInput (next_pass pass day)); reply = replied_with (next_day_refusal book.old.state pass day) 0 } }
-    ensures after { book.new.state ≡ kept_or (next_day_refusal book.old.state pass day) book.old.state (next_day book.old.state day) }
-{
-    match book.next_day(pass, day) {
-        Ok(next) => Done {
-            pass: Pass::ForInput(next),
-            reply: Ok(0),
-        },
-        Err((pass, refusal)) => Done {
-            pass: Pass::ForAssigned(pass),
-            reply: Err(refusal),
-        },
-    }
-}
-
 // Any call under an Input pass.
 fn under_input<S: Draws>(
     book: &mut Book,
@@ -130,20 +89,17 @@ fn under_input<S: Draws>(
     match call {
         Call::OfInput(c) => {
             let reply = input_call(book, &pass, c);
-            Done {
-                pass: Pass::ForInput(pass),
-                reply,
-            }
+            answered(Pass::ForInput(pass), reply)
         }
         Call::OfExercise(c) => {
             let reply = exercise_call(book, &pass, c);
-            Done {
-                pass: Pass::ForInput(pass),
-                reply,
-            }
+            answered(Pass::ForInput(pass), reply)
         }
-        Call::CutOff => end_input(book, pass),
-        _ => misfit(Pass::ForInput(pass)),
+        Call::CutOff => match book.cut(pass) {
+            Ok(next) => answered(Pass::ForCut(next), Ok(0)),
+            Err((pass, refusal)) => answered(Pass::ForInput(pass), Err(refusal)),
+        },
+        _ => answered(Pass::ForInput(pass), Err(Refusal::PassMisfit)),
     }
 }
 
@@ -160,16 +116,10 @@ fn under_cut<S: Draws>(
 {
     match call {
         Call::Assign => match book.assign(source, pass) {
-            Ok((next, used)) => Done {
-                pass: Pass::ForAssigned(next),
-                reply: Ok(used),
-            },
-            Err((pass, refusal)) => Done {
-                pass: Pass::ForCut(pass),
-                reply: Err(refusal),
-            },
+            Ok((next, used)) => answered(Pass::ForAssigned(next), Ok(used)),
+            Err((pass, refusal)) => answered(Pass::ForCut(pass), Err(refusal)),
         },
-        _ => misfit(Pass::ForCut(pass)),
+        _ => answered(Pass::ForCut(pass), Err(Refusal::PassMisfit)),
     }
 }
 
@@ -187,13 +137,13 @@ fn under_assigned<S: Draws>(
     match call {
         Call::GiveStatement => {
             let reply = book.statement(&pass, lines);
-            Done {
-                pass: Pass::ForAssigned(pass),
-                reply,
-            }
+            answered(Pass::ForAssigned(pass), reply)
         }
-        Call::BeginDay(day) => end_day(book, pass, *day),
-        _ => misfit(Pass::ForAssigned(pass)),
+        Call::BeginDay(day) => match book.next_day(pass, *day) {
+            Ok(next) => answered(Pass::ForInput(next), Ok(0)),
+            Err((pass, refusal)) => answered(Pass::ForAssigned(pass), Err(refusal)),
+        },
+        _ => answered(Pass::ForAssigned(pass), Err(Refusal::PassMisfit)),
     }
 }
 

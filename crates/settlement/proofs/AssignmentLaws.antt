@@ -1,5 +1,5 @@
 -- What the assignment of a series comes to.
-use Rattle.std.proofs.Common.{◌≡◌, ℕ, zero, suc, ◌+◌, ◌-◌, ◌*◌, ◌/◌, ◌<◌, ◌≤◌, min, Bool, true, false, cond, List, map, length, get_or, sum_by, sum, sym, refl, ap, ◌∙◌, ⊎_elim, mul-le-mul_right, zero-mul, div-mul-le_self, add-one, arith}
+use Rattle.std.proofs.Common.{◌≡◌, ℕ, zero, suc, ◌+◌, ◌-◌, ◌<◌, ◌≤◌, Bool, true, false, cond, List, map, length, get_or, sum_by, sum, sym, refl, ap, ◌∙◌, ⊎_elim, add-one, arith}
 use Rattle.std.specs.List.{range_with_len}
 use Rattle.std.proofs.lemmas.List.{get_or_past}
 use Rattle.std.proofs.lemmas.List.Sums.{sum-map}
@@ -7,7 +7,6 @@ use Rattle.std.proofs.lemmas.Bool.{cases_lt, true≢false, false≢true}
 use Rattle.std.proofs.lemmas.List.FromFn.{length-map-range_with_len, get_or-map-range_with_len, sum_by-map-range_with_len_more}
 use Rattle.draws.specs.Meaning.{Meaning, Below}
 use Rattle.allocation.specs.Stretch.{share}
-use Rattle.allocation.proofs.Needed.{needed_none}
 use Rattle.allocation.proofs.Totals.{over, over_more}
 use Rattle.positions.specs.declared.cell.Cell.{Cell}
 use Rattle.positions.specs.declared.kinds.Right.{Right}
@@ -25,13 +24,6 @@ use Rattle.settlement.proofs.Allocated.{sum_shorts, assigned_same, due_short, du
 pub covering_le : (right : Right) (size shares assigned : ℕ) → covering right size shares assigned ≤ assigned
 covering_le Call size shares assigned = omega arith
 covering_le Put size shares assigned = omega arith
-
--- the shares for the covered contracts are there
-pub covering_delivers : (right : Right) (size shares assigned : ℕ) → covering right size shares assigned * size ≤ shares
-covering_delivers Call size shares assigned =
-    let less : min assigned (shares / size) ≤ shares / size = omega arith in
-    omega (arith, mul-le-mul_right size less, div-mul-le_self shares size)
-covering_delivers Put size shares assigned = omega (arith, zero-mul size)
 
 no_cell_settled : (lapses : Bool) (assigned covered : ℕ) → assigned ≡ 0 → covered ≡ 0 → at_end lapses (settled no_cell assigned covered) ≡ no_cell
 no_cell_settled true assigned covered a c = rw (a, c)
@@ -183,12 +175,6 @@ series_settled m cells collateral right size block lapses below a = record {
   accounts = size_after m cells collateral right size block below a lapses ∙ a.accounts;
   places = length-map-range_with_len (collateral_after right size collateral (assigned_in m cells block)) 0 (length cells) ∙ a.accounts;
 }
-
--- nothing due: no draw
-pub series_idle : (m : Meaning) (cells : List Cell) (collateral : List ℕ) (right : Right) (size block : ℕ) (lapses : Bool) → 1 ≤ block → total_due cells ≡ 0 → (draws_for cells block ≡ 0) × ((series_outcome m cells collateral right size block lapses).source ≡ m)
-series_idle m cells collateral right size block lapses positive none =
-    let no_draws : draws_for cells block ≡ 0 = rw none (needed_none block positive) in
-    (no_draws, rw no_draws)
 
 pub series_same : SeriesRestsOnAnswers
 series_same m m' cells collateral right size block lapses below a agree =

@@ -1,6 +1,6 @@
 -- Lists with at each place what a function gives there: written by a loop, or made by calls.
 use denote.Param.Members.{Mut}
-use Rattle.std.proofs.Common.{◌≡◌, ℕ, zero, suc, ◌+◌, ◌<◌, ◌≤◌, ◌≢◌, List, map, length, get_or, set, sym, refl, ap, ◌∙◌, subst, zero-add, arith, length-set, get_or-set_other}
+use Rattle.std.proofs.Common.{◌≡◌, ℕ, zero, suc, ◌+◌, ◌<◌, ◌≤◌, ◌≢◌, List, map, length, get_or, set, sym, ap, ◌∙◌, subst, zero-add, arith, length-set, get_or-set_other}
 use Rattle.std.specs.Array.{IsFromFnResultFrom, IsFromFnResult}
 use Rattle.std.specs.Fn.{Called}
 use Rattle.std.specs.List.{range_with_len}
@@ -15,9 +15,6 @@ pub record Filled {X : Type 0} (f : ℕ → X) (d : X) (xs ys : List X) (i : ℕ
   pub rest : (k : ℕ) → i ≤ k → get_or ys k d ≡ get_or xs k d
 
 module _ {X : Type 0} (f : ℕ → X) (d : X) (xs : List X) where
-  pub filled_none : Filled f d xs xs 0
-  filled_none = record { size = refl; done = λ k h. absurd (omega arith); rest = λ k h. refl }
-
   pub filled_more : (ys : List X) (i : ℕ) (y : X) → Filled f d xs ys i → i < length xs → y ≡ f i → Filled f d xs (set ys i y) (i + 1)
   filled_more ys i y w l e = record {
     size = length-set ys i y ∙ w.size;

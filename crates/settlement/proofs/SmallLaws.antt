@@ -1,9 +1,6 @@
 -- How large the amounts of a series' lines are.
-use Rattle.std.proofs.Common.{◌≡◌, ℕ, zero, suc, ◌+◌, ◌-◌, ◌<◌, ◌≤◌, Bool, true, false, cond, eqb, List, [], ◌∷◌, ◌++◌, length, get_or, sum_by, ⊎_elim, mul-le-mul, add-one, arith}
+use Rattle.std.proofs.Common.{ℕ, zero, suc, ◌+◌, ◌-◌, ◌≤◌, Bool, true, false, cond, eqb, List, [], ◌∷◌, ◌++◌, length, get_or, mul-le-mul, add-one, arith}
 use Rattle.std.specs.List.{AllByRecursion}
-use Rattle.std.proofs.lemmas.List.{get_or_past}
-use Rattle.std.proofs.lemmas.List.Sums.{get_or-le-sum_by}
-use Rattle.std.proofs.lemmas.Bool.{cases_lt}
 use Rattle.std.proofs.ByRecursion.{All-append}
 use Rattle.positions.specs.declared.cell.Cell.{Cell}
 use Rattle.positions.specs.Cells.{no_cell}
@@ -52,11 +49,3 @@ module _ (t : SeriesTerms) (sized : t.size ≤ 10_000) (struck : t.strike ≤ 1_
 
 pub lines_small : LinesSmall
 lines_small t cells sized struck k = first_small t sized struck cells k (length cells)
-
--- cells of which no more than 100,000 contracts are exercised, and as many assigned
-pub all_countable : (cells : List Cell) → sum_by (λ (c : Cell). c.exercised) cells ≤ 100_000 → sum_by (λ (c : Cell). c.exercised) cells ≡ sum_by (λ (c : Cell). c.assigned) cells → ((j : ℕ) → (get_or cells j no_cell).covered ≤ (get_or cells j no_cell).assigned) → (j : ℕ) → Countable (get_or cells j no_cell)
-all_countable cells few same part j =
-    ⊎_elim
-    (λ (l : j < length cells). record { exercised = omega (arith, get_or-le-sum_by (λ (c : Cell). c.exercised) cells j no_cell l); assigned = omega (arith, get_or-le-sum_by (λ (c : Cell). c.assigned) cells j no_cell l); covered = part j })
-    (λ (l : length cells ≤ j). rw (get_or_past cells j no_cell l) (record { exercised = omega arith; assigned = omega arith; covered = omega arith }))
-    (cases_lt j (length cells))

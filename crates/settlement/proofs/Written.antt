@@ -17,9 +17,6 @@ module _ {X : Type 0} where
       let e : at + suc (length xs) ≡ suc at + length xs = omega arith in
       ap (λ (k : ℕ). sets (sets (set d at x) (suc at) xs) k ys) e ∙ sets_more (set d at x) (suc at) xs ys
 
-  pub written_none : (d : List X) (at : ℕ) → at ≤ length d → d ≡ written d at []
-  written_none d at h = as_sets d at [] (omega arith)
-
   pub written_one : (d : List X) (at : ℕ) (x : X) → at < length d → set d at x ≡ written d at (x ∷ [])
   written_one d at x h = as_sets d at (x ∷ []) (omega arith)
 

@@ -1,4 +1,4 @@
-ghost use Rattle.std.specs.Prelude.{◌≡◌, ℕ, ◌<◌, ◌≤◌, map, length, get_or, None, sum, slice_index, slice_index_or};
+ghost use Rattle.std.specs.Prelude.{◌≡◌, ℕ, ◌≤◌, map, length, get_or, None, sum, slice_index};
 ghost use Rattle.std.specs.List.{range_with_len};
 ghost use Rattle.draws.specs.Meaning.{behind_all};
 ghost use Rattle.allocation.specs.Assigned.{draws_needed, bounds, assigned_by};
@@ -29,7 +29,7 @@ pub fn draws_for_series(cells: &[Cell; 32], block: u32) -> u32
     ensures draws { result ≡ draws_for cells.now block }
     ensures few { result ≤ 101_000 }
 {
-    total_exercised(cells).div_ceil(block)
+    allocation::draws_for(total_exercised(cells), block)
 }
 
 // The short contracts of each account.

@@ -4,4 +4,4 @@ use Rattle.book.proofs.PassLaws.{accepted}
 use Rattle.book.proofs.book.Book.open.Goals as goal
 
 pub invariant_of-book : goal.invariant_of-book
-invariant_of-book c = record { sound = sound_at _ _ c.opening-state.ensures (facts_opened c.args.number c.args.day c.args.size c.args.block (accepted _ c.in_ok-check_open.ensures)) }
+invariant_of-book c = record { sound = sound_at _ _ c.opening-state.ensures (facts_opened c.args.o.now (accepted _ c.in_ok-check_open.ensures)) }
