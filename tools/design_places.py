@@ -40,7 +40,7 @@ def covers(text):
         if not m:
             continue
         first = i
-        while re.match(r"\s*(//|#\[)", lines[first]):
+        while re.match(r"\s*(//|#!?\[)", lines[first]):
             first += 1
         topics = TOPICS.get(m.group(1))
         head = not lines[first].strip() or re.match(r"(ghost )?use |mod ", lines[first])
