@@ -16,13 +16,19 @@ impl State {
     pub fn opening(o: &Opening) -> State
         ensures { result ≡ opening o.now }
     {
+        let Opening {
+            number,
+            day,
+            size,
+            block,
+        } = *o;
         State {
             terms: Terms {
-                number: o.number,
-                size: o.size,
-                block: o.block,
+                number,
+                size,
+                block,
             },
-            day: o.day,
+            day,
             previous: 0,
             stage: Stage::Input,
             trading: true,
