@@ -101,7 +101,7 @@ class Function:
 
 
 def functions():
-    head = re.compile(r"^( *)(?:pub(?:\(crate\))? )?(?:extern \"C\" )?fn (\w+)(?:<[^(]*>)?\((.*?)\)((?:\n|[^{};])*?(?:(?:requires|ensures\*?)[^\n]*\n\s*)*)\{(.*?)^\1\}", re.M | re.S)
+    head = re.compile(r"^( *)(?:pub(?:\(crate\))? )?(?:extern \"C\" )?fn (\w+)(?:<.*?>)?\(([^()]*(?:\([^()]*\)[^()]*)*)\)((?:\n|[^{};\[]|\[(?:[^\[\]]|\[[^\]]*\])*\])*?(?:(?:requires|ensures\*?)[^\n]*\n\s*)*)\{(.*?)^\1\}", re.M | re.S)
     for path, text in SOURCE.items():
         for m in head.finditer(text):
             yield Function(path, line(text, m.start()), m.group(2), m.group(3), m.group(4), m.group(5))
