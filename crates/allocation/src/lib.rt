@@ -1,4 +1,6 @@
 // Assignment of exercised contracts to the accounts that are short, by draw.
+// Kept: fields of one allocation are parameters: a struct that lends a source and two slices has three lifetimes, and
+// each clause would name what lies behind them.
 #![tactic(auto)]
 
 ghost use Rattle.std.specs.Prelude.{◌≡◌, ◌<◌, ◌≤◌, [], length, sum};
@@ -53,7 +55,6 @@ pub fn draws_for(exercised: u32, block: u32) -> u32
 }
 
 // What an allocation answers: the draws that it takes, or the first check that fails.
-// Kept: these are the parameters of `allocate`; a struct of them for two private functions makes each clause longer.
 fn check<S: Draws>(
     source: &S,
     shorts: &[u32],
@@ -105,7 +106,8 @@ fn take_stretch(shorts: &[u32], start: u32, count: u32, assigned: &mut [u32])
 {
     let mut skip = start;
     let mut need = count;
-    for _ in 0..2u8 {
+    // Kept: at most two rounds, left by the label as soon as nothing more is needed, as this project asks.
+    'walk: for _ in 0..2u8 {
         for (i, short) in shorts.iter().enumerate() {
             let open_contracts = short - assigned[i];
             let passed = skip.min(open_contracts);
@@ -114,7 +116,7 @@ fn take_stretch(shorts: &[u32], start: u32, count: u32, assigned: &mut [u32])
             assigned[i] += taken;
             need -= taken;
             if need == 0 {
-                return;
+                break 'walk;
             }
         }
     }
@@ -140,6 +142,7 @@ fn assign<S: Draws>(
     assigned.fill(0);
     let mut remaining = total(shorts) as u32;
     let mut left = exercised;
+    // Kept: what is left ends the loop, and gives the last block its size; a count of the draws would stand beside it.
     while left > 0 {
         let start = draw_start(source, remaining);
         let count = block.min(left);

@@ -6,6 +6,8 @@ use crate::book::Book;
 use crate::pass::InputPass;
 use ledger::{Ledger, Opening, PositionTransfer, Refusal, State, Trade};
 
+// Kept: codes come as they were called in; a parameter of the enum would ask callers to have judged them.
+// Kept: fields of a call, at most four, are parameters here as at the call; five or more are a struct, as `Trade`.
 impl Book {
     // Opens a book, with its first pass.
     pub fn open(o: &Opening) -> Result<(Book, InputPass), Refusal>
@@ -73,6 +75,7 @@ impl Book {
     }
 
     // Holds a free leg for another participant.
+    // Kept: admit, check, effect; one function with two closures is longer than the three lines.
     pub fn give_up(&mut self, pass: &InputPass, leg: u32, participant: u32) -> Result<u32, Refusal>
         ensures reply { result ≡ (give_up_call self.old.state pass.now leg participant).reply }
         ensures after { self.new.state ≡ (give_up_call self.old.state pass.now leg participant).state }
@@ -101,6 +104,7 @@ impl Book {
     }
 
     // Moves longs or shorts to another account of the participant.
+    // Kept: as in `give_up`.
     pub fn position_transfer(
         &mut self,
         pass: &InputPass,

@@ -5,6 +5,8 @@ use crate::book::Book;
 use crate::pass::InputPass;
 use ledger::Refusal;
 
+// Kept: codes come as they were called in; a parameter of the enum would ask callers to have judged them.
+// Kept: fields of a call, at most four, are parameters here as at the call; five or more are a struct, as `Trade`.
 impl Book {
     // Asks for an exercise, and answers the request's number.
     pub fn request(
@@ -23,6 +25,7 @@ impl Book {
     }
 
     // Rejects a pending request.
+    // Kept: as in `give_up`.
     pub fn reject_request(&mut self, pass: &InputPass, request: u32) -> Result<u32, Refusal>
         ensures reply { result ≡ (rejection_call self.old.state pass.now request).reply }
         ensures after { self.new.state ≡ (rejection_call self.old.state pass.now request).state }
@@ -80,6 +83,7 @@ impl Book {
     }
 
     // Adds shares to an account's collateral.
+    // Kept: as in `give_up`.
     pub fn lodge(&mut self, pass: &InputPass, account: u32, shares: u32) -> Result<u32, Refusal>
         ensures reply { result ≡ (lodge_call self.old.state pass.now account shares).reply }
         ensures after { self.new.state ≡ (lodge_call self.old.state pass.now account shares).state }
@@ -91,6 +95,7 @@ impl Book {
     }
 
     // Takes shares from it.
+    // Kept: as in `give_up`.
     pub fn withdraw(&mut self, pass: &InputPass, account: u32, shares: u32) -> Result<u32, Refusal>
         ensures reply { result ≡ (withdrawal_call self.old.state pass.now account shares).reply }
         ensures after { self.new.state ≡ (withdrawal_call self.old.state pass.now account shares).state }

@@ -7,6 +7,7 @@ pub struct InputPass {
 }
 
 // The right to the assignment.
+// Kept: as `InputPass`.
 #[derive(Drop)]
 pub struct CutPass {
     pub(crate) number: u32,
@@ -14,6 +15,7 @@ pub struct CutPass {
 }
 
 // The right to statements and to the next day.
+// Kept: as `InputPass`.
 #[derive(Drop)]
 pub struct AssignedPass {
     pub(crate) number: u32,

@@ -1,3 +1,4 @@
+// Kept: facts on the stage of a book that is lent can't go into a type; callers have the Cut pass.
 ghost use Rattle.std.specs.Prelude.{◌≡◌, ◌≤◌};
 ghost use Rattle.draws.specs.Checks.{checked};
 ghost use Rattle.ledger.specs.declared.state.Stage.TheVariants.{Cut};
@@ -9,6 +10,7 @@ use settlement::{AssignmentTerms, assign_series, draws_for_series};
 use std::array;
 
 // Assigns each series in rising number.
+// Kept: cells lie in the series and collateral in the accounts, so no struct has both.
 fn assign_rows<S: Draws>(
     source: &mut S,
     rows: &mut [Series; 32],
@@ -41,6 +43,7 @@ fn lodged_shares(accounts: &[Account; 32]) -> [u32; 32]
 }
 
 // Gives each account its collateral.
+// Kept: settlement takes the shares alone, since it knows nothing of accounts; so they are copied out and put back.
 fn put_collateral(accounts: &mut [Account; 32], shares: &[u32; 32])
     ensures { accounts.new ≡ with_shares accounts.old shares.now }
 {

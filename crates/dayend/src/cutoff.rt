@@ -1,3 +1,5 @@
+// Kept: facts about a book that is lent can't go into a type of the number that they are about.
+// Kept: rows are numbered from 1, and a request has the account's number.
 ghost use Rattle.std.specs.Prelude.{◌≡◌, ℕ, false, [], ◌+◌, ◌<◌, ◌≤◌, slice_index, slice_index_or};
 ghost use Rattle.draws.specs.Checks.{checked};
 ghost use Rattle.positions.specs.Places.{each};
@@ -77,6 +79,7 @@ fn automatic_in(book: &State, series: u32) -> [bool; 32]
 }
 
 // The same for each series.
+// Kept: a table of series and accounts, of which each row goes to `cut_cells`.
 fn automatic(book: &State) -> [[bool; 32]; 32]
     ensures { (i a : ℕ) → i < 32 → a < 32 → slice_index_or (slice_index_or result i []) a false ≡ automatic book.now (a + 1) (i + 1) }
 {
@@ -89,6 +92,7 @@ fn automatic(book: &State) -> [[bool; 32]; 32]
 }
 
 // Cuts the cells of a series. One with neither longs nor contracts due stays as it is.
+// Kept: accounts and cells lie apart in the book, and what is wanted is added up for all accounts at once.
 fn cut_cells(
     cells: &mut [Cell; 32],
     accounts: &[Account; 32],

@@ -1,3 +1,5 @@
+// Kept: codes come as they were called in; a parameter of the enum would ask callers to have judged them.
+// Kept: fields of a call, at most four, are parameters here as at the call; five or more are a struct, as `Trade`.
 ghost use Rattle.std.specs.Prelude.{◌≡◌, ◌+◌, ◌<◌, ◌≤◌};
 ghost use Rattle.draws.specs.Checks.{checked};
 ghost use Rattle.dealing.specs.Listings.{open_checks, account_checks, account_added, contract_of, listed, series_checks, series_added};

@@ -1,3 +1,5 @@
+// Kept: facts about a book that is lent can't go into a type of the number that they are about.
+// Kept: rows are written by place, since a function that lends a `&mut` to an element of an array gets no proof.
 ghost use Rattle.std.specs.Prelude.{◌≡◌, ◌+◌, ◌≤◌, true};
 ghost use Rattle.draws.specs.Checks.{checked};
 ghost use Rattle.positions.specs.Rows.{Below};
@@ -27,6 +29,7 @@ fn in_range(t: &Trade) -> bool
 }
 
 // One side's leg of a trade, before any of it is closed.
+// Kept: some fields come from the trade, others from its side, so this is no From.
 fn leg_on(side: Side, t: &Trade) -> Leg
     ensures { result ≡ leg_on side t.now 0 }
 {

@@ -14,6 +14,7 @@ pub use recorder::{Pair, Recorder, Table};
 pub use tape::Tape;
 
 // A reply as an archive line has it: its number, and the result that goes with it.
+// Kept: of the shape of a pass and of a recorded pair by chance.
 #[derive(Clone, Copy, PartialEq, Eq, Debug)]
 pub struct Reply {
     pub number: u32,

@@ -8,6 +8,7 @@ use few::Few;
 const PLACES: usize = 256;
 
 // A bound drawn with, and its answer.
+// Kept: of the shape of a reply by chance, and the answer is the number drawn, no code.
 #[derive(Clone, Copy, PartialEq, Eq, Debug)]
 pub struct Pair {
     pub bound: u32,
@@ -48,6 +49,7 @@ impl Table {
         self.pairs.as_slice()
     }
 
+    // Kept: the answer is the number drawn, no code.
     fn note(&mut self, bound: u32, answer: u32)
         requires { 0 < room self.old }
         ensures pairs { kept self.new ≡ kept self.old ++ (record { bound = bound; answer = answer } ∷ []) }

@@ -1,3 +1,7 @@
+// Kept: codes come as they were called in; a parameter of the enum would ask callers to have judged them.
+// Kept: fields of a call, at most four, are parameters here as at the call; five or more are a struct, as `Trade`.
+// Kept: facts about a book that is lent can't go into a type of the number that they are about.
+// Kept: rows are written by place, since a function that lends a `&mut` to an element of an array gets no proof.
 ghost use Rattle.std.specs.Prelude.{◌≡◌, ◌+◌, ◌≤◌, true};
 ghost use Rattle.draws.specs.Checks.{checked};
 ghost use Rattle.ledger.specs.Tables.{RowNumber, account_of};

@@ -1,6 +1,6 @@
 -- Where an item has room, and where it has none.
 use Rattle.std.proofs.Common.{◌≡◌, ℕ, ◌-◌, ◌<◌, List, [], ◌∷◌, ◌++◌, length, take, ap, ◌∙◌, arith, length-append}
-use Rattle.std.proofs.lemmas.List.{take_all, take-append-le, take_min}
+use Rattle.std.proofs.lemmas.List.{take_all, take_min}
 use Rattle.std.proofs.lemmas.Slice.{overwrites, between_is}
 use Rattle.std.proofs.Math.Seq.{take-append-add}
 
@@ -10,8 +10,5 @@ push_fits n xs x room = take_all n (xs ++ (x ∷ [])) (omega (arith, length-appe
 -- one place less is free
 pub push_leaves : {X : Type 0} (n : ℕ) (xs ys : List X) (x : X) → ys ≡ xs ++ (x ∷ []) → n - length ys ≡ n - length xs - 1
 push_leaves n xs ys x e = omega (arith, ap length e ∙ length-append xs (x ∷ []))
-
-pub push_full : {X : Type 0} (n : ℕ) (xs : List X) (x : X) → length xs ≡ n → take n (xs ++ (x ∷ [])) ≡ xs
-push_full n xs x full = take-append-le n xs (x ∷ []) (omega arith) ∙ take_all n xs (omega arith)
 
 pub ruleset overwritten = (overwrites, take_min, take-append-add, between_is)

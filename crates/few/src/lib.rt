@@ -10,6 +10,7 @@ use std::alloc::AllocError;
 pub struct Full;
 
 // At most N items, in the order in which they came.
+// Kept: an array with its count, since nothing is on a heap here; the count is private, and its limit a ghost field.
 pub struct Few<T, const N: usize> {
     items: [T; N],
     count: usize,
@@ -93,8 +94,11 @@ impl<T: Copy, const N: usize> Few<T, N> {
     pub fn keep_last(&mut self, left: usize)
         ensures { contents self.new ≡ last left (contents self.old) }
     {
-        let start = self.count.saturating_sub(left);
+        if left >= self.count {
+            return;
+        }
+        let start = self.count - left;
         self.items.copy_within(start..self.count, 0);
-        self.count -= start;
+        self.count = left;
     }
 }

@@ -1,3 +1,4 @@
+// Kept: fields, the numbers of an account and of a series, name a cell; a struct of both would be made at each look-up.
 ghost use Rattle.std.specs.Prelude.{◌≡◌};
 ghost use Rattle.ledger.specs.Tables.{RowNumber, cell_at};
 ghost use Rattle.ledger.specs.Lookups.{within, has_account, has_series, has_leg, expires, expired, expiring, participant_of, another_of_same, is_free, held_for};
@@ -34,7 +35,7 @@ impl Contract {
     }
 }
 
-// Kept: callers have checked the numbers; a type for a checked one would be made and opened around each call.
+// Kept: facts on numbers that callers have checked: a type of a checked one would be made and opened around each call.
 impl State {
     pub fn has_account(&self, n: u32) -> bool
         ensures { result ≡ has_account self.now n }
@@ -74,6 +75,7 @@ impl State {
     }
 
     // An account's cell in a series, both by number.
+    // Kept: the one place where a cell is looked up by both numbers.
     pub fn cell(&self, account: u32, series: u32) -> Cell
         requires { RowNumber 32 account × RowNumber 32 series }
         ensures { result ≡ cell_at self.now account series }

@@ -55,10 +55,12 @@ pub struct Request {
     pub account: u32,
     pub series: u32,
     pub quantity: u32,
+    // Kept: a request that is rejected keeps its number and fields, so the flag stands beside them.
     pub pending: bool,
 }
 
 // Up to N rows, of which the first `count` are in use. Rows are numbered from 1.
+// Kept: an array with its count, since nothing is on a heap here, each capacity is a rule, and the law names both.
 #[derive(Clone, Copy, Debug, PartialEq, Eq)]
 pub struct Table<T, const N: usize> {
     pub rows: [T; N],
@@ -87,6 +89,7 @@ pub struct State {
     pub day: u32,
     pub previous: u32,
     pub stage: Stage,
+    // Kept: there is no value that goes with it.
     pub trading: bool,
     pub fixing: Option<u32>,
     pub house: House,
@@ -97,6 +100,7 @@ pub struct State {
 }
 
 // A trade as it is called in: numbers of the series and of two accounts, and for each account an effect's code.
+// Kept: the effects are codes, since a trade that is called in may have any; its shape is a cell's by chance.
 #[derive(Clone, Copy, Debug, PartialEq, Eq)]
 pub struct Trade {
     pub series: u32,
@@ -109,6 +113,7 @@ pub struct Trade {
 }
 
 // A position transfer as it is called in.
+// Kept: the side is a code, since a transfer that is called in may have any.
 #[derive(Clone, Copy, Debug, PartialEq, Eq)]
 pub struct PositionTransfer {
     pub from: u32,

@@ -1,3 +1,4 @@
+// Kept: rows are written by place, since a function that lends a `&mut` to an element of an array gets no proof.
 ghost use Rattle.std.specs.Prelude.{◌≡◌, ◌+◌, ◌<◌, ◌≤◌};
 ghost use Rattle.ledger.specs.Tables.{new_account, new_series, opening, cells_of, with_cells, empty_table, RowNumber, row_of, in_use, one_more, leg_rebooked, leg_stepped};
 ghost use Rattle.ledger.specs.Lookups.{has};
@@ -45,6 +46,7 @@ impl State {
     }
 
     // The cells of the series at a place.
+    // Kept: the place, as the definitions of a series' cells have it.
     pub fn cells(&self, at: usize) -> [Cell; 32]
         requires { at < 32 }
         ensures { result ≡ cells_of self.now at }
@@ -53,6 +55,7 @@ impl State {
     }
 
     // Replaces them.
+    // Kept: the place, as in `cells`.
     pub fn put_cells(&mut self, at: usize, cells: [Cell; 32])
         requires { at < 32 }
         ensures { self.new ≡ with_cells self.old at cells }

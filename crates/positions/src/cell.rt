@@ -1,9 +1,12 @@
+// Kept: fields of a leg are parameters, since a leg is whole only when its closed part is known.
+// Kept: facts on how many contracts there are have another number for each step, so no type has them all.
 ghost use Rattle.std.specs.Prelude.{◌≡◌, ◌≤◌};
 ghost use Rattle.positions.specs.Cells.{no_cell, with_sides, on_side, closing, booked, unbooked, given, received, with_denied, netted, undenied, with_due, carried, AtMost};
 
 use crate::kinds::{AccountType, Effect, Side};
 
 // One account's contracts in one series.
+// Kept: of the shape of a trade by chance.
 #[derive(Clone, Copy, Debug, Default, PartialEq, Eq)]
 pub struct Cell {
     pub longs: u32,
@@ -127,6 +130,7 @@ impl Cell {
     }
 
     // The longs that are exercised without a request, where the series is.
+    // Kept: yes or no, with no value beside it.
     fn undenied(&self, automatic: bool) -> u32
         ensures { result ≡ undenied self.now automatic }
     {
@@ -138,6 +142,7 @@ impl Cell {
     }
 
     // The cell with the contracts that are due, no more than there are longs.
+    // Kept: yes or no, with no value beside it.
     pub fn with_due(&self, asked: u32, automatic: bool) -> Cell
         ensures { result ≡ with_due self.now asked automatic }
     {

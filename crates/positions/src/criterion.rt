@@ -13,10 +13,10 @@ pub enum Criterion {
 
 impl Criterion {
     // The criterion of a form that is 1 or 2.
+    // Kept: made of two numbers of the archive's lines, and total, as the definition is; so this is no From.
     pub fn of_form(form: u32, value: u32) -> Criterion
         ensures { result ≡ criterion_of_form form value }
     {
-        // Kept: the form is a number of the archive's lines, which stands beside its value there.
         if form == 1 {
             Criterion::Percent(value)
         } else {

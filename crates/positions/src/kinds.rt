@@ -1,3 +1,4 @@
+// Kept: codes are read by `try_from`; `of_code` is total, as the definitions are, for a code that was judged before.
 ghost use Rattle.std.specs.Prelude.{◌≡◌};
 ghost use Rattle.positions.specs.Kinds.{side_of_code, effect_of_code, right_of_code, type_of_code, decoded, is_net, same_right};
 
@@ -105,6 +106,7 @@ impl TryFrom<u32> for AccountType {
 
 impl Right {
     // The right of a code that is 1 or 2.
+    // Kept: total, as the definition is; callers have judged the code by `try_from`.
     pub fn of_code(code: u32) -> Right
         ensures { result ≡ right_of_code code }
     {
@@ -120,6 +122,7 @@ impl Right {
 
 impl Side {
     // The side of a code that is 1 or 2.
+    // Kept: total, as the definition is; callers have judged the code by `try_from`.
     pub fn of_code(code: u32) -> Side
         ensures { result ≡ side_of_code code }
     {
@@ -129,6 +132,7 @@ impl Side {
 
 impl Effect {
     // The effect of a code that is 1 or 2.
+    // Kept: total, as the definition is; callers have judged the code by `try_from`.
     pub fn of_code(code: u32) -> Effect
         ensures { result ≡ effect_of_code code }
     {
@@ -138,6 +142,7 @@ impl Effect {
 
 impl AccountType {
     // The type of a code from 1 to 4.
+    // Kept: total, as the definition is; callers have judged the code by `try_from`.
     pub fn of_code(code: u32) -> AccountType
         ensures { result ≡ type_of_code code }
     {

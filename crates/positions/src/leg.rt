@@ -6,6 +6,7 @@ use crate::cell::Cell;
 use crate::kinds::{Effect, Side};
 
 // A leg is free, or held for a participant that may take it up.
+// Kept: as an Option of the participant it would not say what is held, nor would its match with the event.
 #[derive(Clone, Copy, Debug, PartialEq, Eq)]
 pub enum LegState {
     Free,
@@ -72,6 +73,7 @@ impl Leg {
     }
 
     // The cell that the leg leaves.
+    // Kept: facts on how many contracts there are have another number for each step, so no type has them all.
     pub fn left_by(&self, cell: &Cell) -> Cell
         requires part { self.now.closed ≤ self.now.quantity }
         requires few { self.now.quantity ≤ 100_000 }

@@ -1,3 +1,6 @@
+// Kept: rows are written by place, since a function that lends a `&mut` to an element of an array gets no proof.
+// Kept: fields of a leg are parameters, since a leg is whole only when its closed part is known.
+// Kept: facts on how many contracts there are have another number for each step, so no type has them all.
 ghost use Rattle.std.specs.Prelude.{◌≡◌, ◌<◌, ◌≤◌, slice_index_or};
 ghost use Rattle.positions.specs.Cells.{no_cell, closing};
 ghost use Rattle.positions.specs.Rows.{total_longs, placed, Below};

@@ -32,6 +32,7 @@ pub enum InputCall {
 }
 
 // A call on requests, criteria, the fixing price or collateral, in the same stage.
+// Kept: codes stay the archive's numbers, as in `InputCall`.
 #[derive(Clone, Copy, Debug, PartialEq, Eq)]
 pub enum ExerciseCall {
     RequestExercise {

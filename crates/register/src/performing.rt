@@ -1,3 +1,5 @@
+// Kept: fields that each call gets (book, source, lines) are parameters: a struct of three borrows would stand in each
+// clause with what lies behind them.
 ghost use Rattle.std.specs.Prelude.{◌≡◌, List, ◌∷◌, length};
 ghost use Rattle.std.specs.List.{AllByRecursion};
 ghost use Rattle.book.specs.declared.pass.Pass.TheVariants.{ForInput, ForCut, ForAssigned};

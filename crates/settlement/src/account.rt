@@ -12,6 +12,7 @@ pub struct AssignmentTerms {
     // The contracts that one draw assigns.
     pub block: u32,
     // Whether the series expires with the day.
+    // Kept: yes or no, with no value beside it.
     pub lapses: bool,
     pub ghost sized: { 1 ≤ size },
 }
@@ -61,6 +62,7 @@ fn lapse(cell: &Cell) -> Cell
 }
 
 // The cell after the assignment: in a series that lapses no longs and shorts are left.
+// Kept: yes or no, with no value beside it.
 pub fn end_day(cell: &Cell, assigned: u32, covered: u32, lapses: bool) -> Cell
     requires { (cell.now.due ≤ cell.now.longs) × (assigned ≤ cell.now.shorts) }
     ensures { result ≡ at_end lapses (settled cell.now assigned covered) }

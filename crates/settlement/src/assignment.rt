@@ -1,3 +1,4 @@
+// Kept: fields of one allocation are parameters, as `allocate` has them.
 ghost use Rattle.std.specs.Prelude.{◌≡◌, ℕ, ◌≤◌, map, length, get_or, None, sum, slice_index};
 ghost use Rattle.std.specs.List.{range_with_len};
 ghost use Rattle.draws.specs.Meaning.{behind_all};
@@ -56,6 +57,7 @@ fn hand_out<S: Draws>(
 }
 
 // Settles each account's cell, and takes from its collateral what covers its assigned calls.
+// Kept: cells lie in a series and collateral in the accounts, so no struct has both.
 fn settle_all(
     cells: &mut [Cell; 32],
     collateral: &mut [u32; 32],
@@ -76,6 +78,7 @@ fn settle_all(
 }
 
 // Settles each account's cell in a series where nothing is exercised.
+// Kept: yes or no, with no value beside it.
 fn settle_none(cells: &mut [Cell; 32], lapses: bool)
     requires { (j : ℕ) → (get_or cells.old j no_cell).due ≤ (get_or cells.old j no_cell).longs }
     ensures { cells.new ≡ map (λ c. at_end lapses (settled c 0 0)) cells.old }
@@ -87,6 +90,7 @@ fn settle_none(cells: &mut [Cell; 32], lapses: bool)
 
 // Assigns what is due in one series to the short contracts by draw, settles each account, and answers how many draws
 // that took.
+// Kept: as in `settle_all`.
 pub fn assign_series<S: Draws>(
     source: &mut S,
     cells: &mut [Cell; 32],

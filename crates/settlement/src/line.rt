@@ -93,6 +93,7 @@ impl SeriesTerms {
     }
 
     // The line of so many contracts of an account in that role.
+    // Kept: facts on the size, as `SeriesTerms` says.
     pub fn line_for(&self, account: u32, role: Role, method: Method, contracts: u32) -> Line
         requires { (contracts ≤ 100_000) × (self.now.size ≤ 10_000) }
         ensures { result ≡ line self.now account role method contracts }

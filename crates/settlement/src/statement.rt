@@ -1,3 +1,4 @@
+// Kept: facts on the size, as `SeriesTerms` says.
 ghost use Rattle.std.specs.Prelude.{◌≡◌, ℕ, ◌+◌, ◌≤◌, [], ◌∷◌, length, slice_index_or};
 ghost use Rattle.positions.specs.Cells.{no_cell};
 ghost use Rattle.settlement.specs.Lines.{exercised_line, covered_line, uncovered_line, if_any, cell_lines, series_lines, one_if_any, line_count, lines_needed, written, Countable};
@@ -21,6 +22,7 @@ fn lines_of(terms: &SeriesTerms, account: u32, cell: &Cell) -> [Line; 3]
 }
 
 // A slice of lines, and the place of the next line in it.
+// Kept: the slice with the place, since the lines go into a lent slice and the place is what is answered.
 #[derive(Drop)]
 struct Writer<'a> {
     lines: &'a mut [Line],
@@ -60,6 +62,7 @@ impl Writer<'_> {
 }
 
 // Writes the lines of one series from a place on, and answers the place after them.
+// Kept: the place, since the definitions tell lines by their place in the whole slice.
 pub fn write_series(lines: &mut [Line], at: usize, terms: &SeriesTerms, cells: &[Cell; 32]) -> usize
     requires fits { at + lines_needed cells.now ≤ length lines.old }
     requires counts { (j : ℕ) → Countable (slice_index_or cells.now j no_cell) }
