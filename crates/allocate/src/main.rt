@@ -22,7 +22,7 @@ fn run(rt: &HostRuntime) -> anyhow::Result<()> {
     Ok(())
 }
 
-// Kept: as of the other program; a crate for these lines would be longer than they are.
+// Kept: `daybook` has the same lines; a crate that both use would be longer than they are.
 fn main(rt: HostRuntime) -> ExitCode {
     match run(&rt) {
         Ok(()) => ExitCode::SUCCESS,

@@ -1,6 +1,5 @@
 // Assignment of exercised contracts to the accounts that are short, by draw.
-// Kept: fields of one allocation are parameters: a struct that lends a source and two slices has three lifetimes, and
-// each clause would name what lies behind them.
+// Kept: fields of one allocation: a struct of the three that are read would be made at each call and opened at once.
 #![tactic(auto)]
 
 ghost use Rattle.std.specs.Prelude.{◌≡◌, ◌<◌, ◌≤◌, [], length, sum};
@@ -108,6 +107,7 @@ fn take_stretch(shorts: &[u32], start: u32, count: u32, assigned: &mut [u32])
     let mut need = count;
     // Kept: at most two rounds, left by the label as soon as nothing more is needed, as this project asks.
     'walk: for _ in 0..2u8 {
+        // Kept: an index, since a proof learns nothing of what a zip with `iter_mut` writes.
         for (i, short) in shorts.iter().enumerate() {
             let open_contracts = short - assigned[i];
             let passed = skip.min(open_contracts);

@@ -64,6 +64,7 @@ fn one_draw(remaining: &[u32], start: u32, count: u32, taken: &mut [u32]) -> Res
 fn take_away(remaining: &mut [u32], taken: &[u32])
     ensures { (i : ℕ) → slice_index remaining.new i ≡ slice_index remaining.old i - slice_index taken.now i }
 {
+    // Kept: an index, since a proof learns nothing of what a zip with `iter_mut` writes.
     for (i, left) in remaining.iter_mut().enumerate() {
         *left = left.saturating_sub(taken.get(i).copied().unwrap_or(0));
     }

@@ -21,6 +21,7 @@ impl Book {
         }
     }
 
+    // Kept: one line each; one function for the three needs a trait with an impl for each pass.
     pub(crate) fn admit(&self, pass: &InputPass) -> Result<(), Refusal>
         ensures { result ≡ checked ((fits_input self.now.state pass.now, PassMisfit) ∷ []) }
     {

@@ -6,7 +6,8 @@ use crate::pass::InputPass;
 use ledger::Refusal;
 
 // Kept: codes come as they were called in; a parameter of the enum would ask callers to have judged them.
-// Kept: fields of a call, at most four, are parameters here as at the call; five or more are a struct, as `Trade`.
+// Kept: fields of a call: a struct of two to four numbers would be made at each call and opened in each check.
+// Kept: an accepted call answers the archive's result, 0 where it makes nothing: so the register treats all alike.
 impl Book {
     // Asks for an exercise, and answers the request's number.
     pub fn request(

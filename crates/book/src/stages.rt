@@ -27,6 +27,7 @@ impl Book {
         ensures reply { result ≡ handed (cut_refusal self.old.state pass) pass (cut_pass pass) }
         ensures after { self.new.state ≡ kept_or (cut_refusal self.old.state pass) self.old.state (cut self.old.state) }
     {
+        // Kept: the pass goes back beside the refusal, so `?` has no conversion for it.
         if let Err(refusal) = self.check_cut(&pass) {
             return Err((pass, refusal));
         }

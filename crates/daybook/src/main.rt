@@ -22,7 +22,7 @@ fn run(rt: &HostRuntime) -> io::Result<()> {
     desk.end()
 }
 
-// Kept: as of the other program; a crate for these lines would be longer than they are.
+// Kept: `allocate` has the same lines; a crate that both use would be longer than they are.
 fn main(rt: HostRuntime) -> ExitCode {
     match run(&rt) {
         Ok(()) => ExitCode::SUCCESS,

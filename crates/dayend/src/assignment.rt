@@ -1,4 +1,4 @@
-// Kept: facts on the stage of a book that is lent can't go into a type; callers have the Cut pass.
+// Kept: facts on the stage: a type of a ledger at the cut would hold its loan and be made for check and effect each.
 ghost use Rattle.std.specs.Prelude.{◌≡◌, ◌≤◌};
 ghost use Rattle.draws.specs.Checks.{checked};
 ghost use Rattle.ledger.specs.declared.state.Stage.TheVariants.{Cut};

@@ -1,4 +1,4 @@
-// Kept: facts about a book that is lent can't go into a type of the number that they are about.
+// Kept: facts on a book and a number: a type of the number would hold the loan of a book that the effect changes.
 // Kept: rows are numbered from 1, and a request has the account's number.
 ghost use Rattle.std.specs.Prelude.{◌≡◌, ℕ, false, [], ◌+◌, ◌<◌, ◌≤◌, slice_index, slice_index_or};
 ghost use Rattle.draws.specs.Checks.{checked};
@@ -79,7 +79,7 @@ fn automatic_in(book: &State, series: u32) -> [bool; 32]
 }
 
 // The same for each series.
-// Kept: a table of series and accounts, of which each row goes to `cut_cells`.
+// Kept: made before the rows are lent: it reads the whole book, whose rows the loop of `cut_rows` changes.
 fn automatic(book: &State) -> [[bool; 32]; 32]
     ensures { (i a : ℕ) → i < 32 → a < 32 → slice_index_or (slice_index_or result i []) a false ≡ automatic book.now (a + 1) (i + 1) }
 {
@@ -112,6 +112,7 @@ fn cut_cells(
 }
 
 // Cuts each series.
+// Kept: `Facts` is asked: contracts are due before the stage is Cut, so what this leaves is no Ledger yet.
 fn cut_rows(book: &mut State)
     requires { Facts book.old }
     ensures { book.new ≡ with_listing book.old (record book.old.series { rows = each (cut_series book.old) book.old.series.rows }) }

@@ -3,7 +3,7 @@ ghost use Rattle.draws.specs.Checks.{checked};
 ghost use Rattle.positions.specs.Places.{each};
 ghost use Rattle.dayend.specs.NextDay.{next_day_checks, carried_cells, carried_series, next_day};
 
-use ledger::{Refusal, Request, Series, Stage, State, Table, is_within};
+use ledger::{Refusal, Request, Series, Stage, State, Table, is_within, limits};
 use positions::{Cell, Leg};
 
 // The cells of one series.
@@ -27,7 +27,7 @@ fn carry_rows(rows: &mut [Series; 32])
 pub fn check_next_day(book: &State, day: u32) -> Result<(), Refusal>
     ensures { result ≡ checked (next_day_checks book.now day) }
 {
-    if !is_within(day, 1, 99_999) {
+    if !is_within(day, 1, limits::DAY) {
         return Err(Refusal::OutOfRange);
     }
     if day <= book.day {
@@ -36,7 +36,7 @@ pub fn check_next_day(book: &State, day: u32) -> Result<(), Refusal>
     Ok(())
 }
 
-// Begins the day: positions, accounts and series are carried over, the rest starts anew.
+// Begins the day: terms, accounts, the house's criteria, series and positions are carried over, the rest starts anew.
 pub fn next_day(book: &mut State, day: u32)
     ensures { book.new ≡ next_day book.old day }
 {

@@ -1,20 +1,20 @@
 // Kept: codes come as they were called in; a parameter of the enum would ask callers to have judged them.
-// Kept: fields of a call, at most four, are parameters here as at the call; five or more are a struct, as `Trade`.
+// Kept: fields of a call: a struct of two to four numbers would be made at each call and opened in each check.
 ghost use Rattle.std.specs.Prelude.{◌≡◌, ◌+◌, ◌<◌, ◌≤◌};
 ghost use Rattle.draws.specs.Checks.{checked};
 ghost use Rattle.dealing.specs.Listings.{open_checks, account_checks, account_added, contract_of, listed, series_checks, series_added};
 
-use ledger::{Account, Contract, Listing, Opening, Refusal, Series, State, is_within};
+use ledger::{Account, Contract, Listing, Opening, Refusal, Series, State, is_within, limits};
 use positions::{AccountType, Right};
 
 // Why an opening is turned back, if it is.
 pub fn check_open(o: &Opening) -> Result<(), Refusal>
     ensures { result ≡ checked (open_checks o.now) }
 {
-    if !is_within(o.number, 1, 9_999)
-        || !is_within(o.day, 1, 99_999)
-        || !is_within(o.size, 1, 10_000)
-        || !is_within(o.block, 1, 1_000)
+    if !is_within(o.number, 1, limits::BOOK_NUMBER)
+        || !is_within(o.day, 1, limits::DAY)
+        || !is_within(o.size, 1, limits::SIZE)
+        || !is_within(o.block, 1, limits::BLOCK)
     {
         return Err(Refusal::OutOfRange);
     }
@@ -43,10 +43,10 @@ pub fn lists(listing: &Listing, contract: &Contract) -> bool
 pub fn check_account(book: &State, participant: u32, code: u32) -> Result<(), Refusal>
     ensures { result ≡ checked (account_checks book.now participant code) }
 {
-    if !is_within(participant, 1, 99) || AccountType::try_from(code).is_err() {
+    if !is_within(participant, 1, limits::PARTICIPANT) || AccountType::try_from(code).is_err() {
         return Err(Refusal::OutOfRange);
     }
-    if book.accounts.count >= 32 {
+    if book.accounts.room() == 0 {
         return Err(Refusal::Full);
     }
     Ok(())
@@ -68,8 +68,8 @@ pub fn check_series(book: &State, right: u32, strike: u32, expiry: u32) -> Resul
     ensures { result ≡ checked (series_checks book.now right strike expiry) }
 {
     if Right::try_from(right).is_err()
-        || !is_within(strike, 1, 1_000_000)
-        || !is_within(expiry, book.day, 99_999)
+        || !is_within(strike, 1, limits::PRICE)
+        || !is_within(expiry, book.day, limits::DAY)
     {
         return Err(Refusal::OutOfRange);
     }
@@ -77,7 +77,7 @@ pub fn check_series(book: &State, right: u32, strike: u32, expiry: u32) -> Resul
     if lists(&book.series, &contract) {
         return Err(Refusal::ListedAlready);
     }
-    if book.series.count >= 32 {
+    if book.series.room() == 0 {
         return Err(Refusal::Full);
     }
     Ok(())

@@ -1,4 +1,4 @@
-// Kept: facts about a book that is lent can't go into a type of the number that they are about.
+// Kept: facts on a book and a number: a type of the number would hold the loan of a book that the effect changes.
 // Kept: rows are written by place, since a function that lends a `&mut` to an element of an array gets no proof.
 ghost use Rattle.std.specs.Prelude.{◌≡◌, ◌+◌, ◌≤◌, true};
 ghost use Rattle.draws.specs.Checks.{checked};
@@ -8,7 +8,7 @@ ghost use Rattle.ledger.specs.Lookups.{has_account, has_series};
 ghost use Rattle.dealing.specs.Trades.{trade_in_range, account_on, leg_on, placed_on, closed_on, buyer_leg, seller_leg, fill_in, fill_of, trade_checks, traded};
 ghost use Rattle.ledger.specs.Sound.{Facts};
 
-use ledger::{Ledger, Refusal, State, Trade, is_within};
+use ledger::{Ledger, Refusal, State, Trade, is_within, limits};
 use positions::{Cell, Effect, Leg, LegState, Side, place, total_longs};
 
 // What a trade does to its series: the cells after it, and the closed part of each leg.
@@ -24,8 +24,8 @@ fn in_range(t: &Trade) -> bool
 {
     Effect::try_from(t.buyer_effect).is_ok()
         && Effect::try_from(t.seller_effect).is_ok()
-        && is_within(t.quantity, 1, 100_000)
-        && is_within(t.price, 1, 1_000_000)
+        && is_within(t.quantity, 1, limits::CONTRACTS)
+        && is_within(t.price, 1, limits::PRICE)
 }
 
 // One side's leg of a trade, before any of it is closed.
@@ -91,6 +91,7 @@ fn fill_of(book: &Ledger, t: &Trade) -> Fill
     requires range { trade_in_range t.now ≡ true }
     ensures { result ≡ fill_of book.now.state t.now }
 {
+    // Kept: by place, since of a row by number the search doesn't find how few contracts its cells have.
     let mut cells = book.state.cells(t.series as usize - 1);
     let (bought, sold) = place_legs(&mut cells, t);
     Fill {
@@ -119,10 +120,10 @@ pub fn check_trade(book: &Ledger, t: &Trade) -> Result<(), Refusal>
     if !book.state.trading {
         return Err(Refusal::TradingClosed);
     }
-    if book.state.legs.count + 2 > 256 {
+    if book.state.legs.room() < 2 {
         return Err(Refusal::Full);
     }
-    if total_longs(&fill_of(book, t).cells) > 100_000 {
+    if total_longs(&fill_of(book, t).cells) > u64::from(limits::CONTRACTS) {
         return Err(Refusal::TooMany);
     }
     Ok(())

@@ -1,5 +1,5 @@
 -- Where no refusal speaks, every check has passed.
-use Rattle.std.proofs.Common.{◌≡◌, Bool, true, false, List, [], ◌∷◌, Some, None, Option, refl}
+use Rattle.std.proofs.Common.{◌≡◌, Bool, true, false, List, [], ◌∷◌, None, Option, refl}
 use Rattle.draws.specs.Checks.{unless, first_refusal, AllPass}
 
 pub unless_none : {R : Type 0} (b : Bool) (r : R) (rest : Option R) → unless b r rest ≡ None → (b ≡ true) × (rest ≡ None)

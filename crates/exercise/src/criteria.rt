@@ -1,6 +1,6 @@
 // Kept: codes come as they were called in; a parameter of the enum would ask callers to have judged them.
-// Kept: fields of a call, at most four, are parameters here as at the call; five or more are a struct, as `Trade`.
-// Kept: facts about a book that is lent can't go into a type of the number that they are about.
+// Kept: fields of a call: a struct of two to four numbers would be made at each call and opened in each check.
+// Kept: facts on a book and a number: a type of the number would hold the loan of a book that the effect changes.
 // Kept: rows are written by place, since a function that lends a `&mut` to an element of an array gets no proof.
 ghost use Rattle.std.specs.Prelude.{◌≡◌, ◌+◌, ◌≤◌, true};
 ghost use Rattle.draws.specs.Checks.{checked};
@@ -8,18 +8,18 @@ ghost use Rattle.ledger.specs.Tables.{RowNumber, account_of};
 ghost use Rattle.ledger.specs.Lookups.{has_account};
 ghost use Rattle.exercise.specs.Criteria.{of_right, criterion_of, form_in_range, criterion_checks, own_of_form, criterion_set, fixing_checks, price_fixed, trading_closed, lodge_checks, lodged, withdrawal_checks, collateral_withdrawn};
 
-use ledger::{Account, House, Ledger, Refusal, State, is_within};
+use ledger::{Account, House, Ledger, Refusal, State, is_within, limits};
 use positions::{Criterion, Right};
 
 // Whether a criterion's form and value may stand: form 0 is for accounts alone.
-// Kept: the forms are the archive's numbers.
+// Kept: judged as called in, with whose it is: a Criterion has no form 0 or 3, and no place for a value beside 0.
 fn form_in_range(account: u32, form: u32, value: u32) -> bool
     ensures { result ≡ form_in_range account form value }
 {
     match form {
         0 => value == 0 && account != 0,
-        1 => value <= 10_000,
-        2 => value <= 1_000_000,
+        1 => value <= limits::PERCENT,
+        2 => value <= limits::PRICE,
         _ => false,
     }
 }
@@ -32,6 +32,7 @@ fn own_of_form(form: u32, value: u32) -> Option<Criterion>
 }
 
 // Of a value for calls and one for puts, the one for the right.
+// Kept: accounts and house have a value for calls and one for puts by name, as the definitions of the law have them.
 fn of_right<T: Copy>(right: Right, calls: T, puts: T) -> T
     ensures { result ≡ of_right right calls puts }
 {
@@ -85,6 +86,7 @@ pub fn check_criterion(
 }
 
 // Sets the house's criterion for a right, or an account's.
+// Kept: account 0 is the house, as called in; an Option of the account would be made for this call alone.
 pub fn set_criterion(book: &mut State, account: u32, right: u32, form: u32, value: u32)
     requires { account ≤ 32 }
     ensures { book.new ≡ criterion_set book.old account right form value }
@@ -103,7 +105,7 @@ pub fn set_criterion(book: &mut State, account: u32, right: u32, form: u32, valu
 pub fn check_fixing(price: u32) -> Result<(), Refusal>
     ensures { result ≡ checked (fixing_checks price) }
 {
-    if !is_within(price, 1, 1_000_000) {
+    if !is_within(price, 1, limits::PRICE) {
         return Err(Refusal::OutOfRange);
     }
     Ok(())
@@ -135,13 +137,13 @@ fn collateral(book: &Ledger, account: u32) -> u32
 pub fn check_lodge(book: &Ledger, account: u32, shares: u32) -> Result<(), Refusal>
     ensures { result ≡ checked (lodge_checks book.now.state account shares) }
 {
-    if !is_within(shares, 1, 99_999_999) {
+    if !is_within(shares, 1, limits::SHARES) {
         return Err(Refusal::OutOfRange);
     }
     if !book.state.has_account(account) {
         return Err(Refusal::NoAccount);
     }
-    if collateral(book, account) + shares > 99_999_999 {
+    if collateral(book, account) + shares > limits::SHARES {
         return Err(Refusal::TooMany);
     }
     Ok(())
@@ -160,7 +162,7 @@ pub fn lodge(book: &mut Ledger, account: u32, shares: u32)
 pub fn check_withdrawal(book: &Ledger, account: u32, shares: u32) -> Result<(), Refusal>
     ensures { result ≡ checked (withdrawal_checks book.now.state account shares) }
 {
-    if !is_within(shares, 1, 99_999_999) {
+    if !is_within(shares, 1, limits::SHARES) {
         return Err(Refusal::OutOfRange);
     }
     if !book.state.has_account(account) {

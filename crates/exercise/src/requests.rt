@@ -1,5 +1,5 @@
-// Kept: fields of a call, at most four, are parameters here as at the call; five or more are a struct, as `Trade`.
-// Kept: facts about a book that is lent can't go into a type of the number that they are about.
+// Kept: fields of a call: a struct of two to four numbers would be made at each call and opened in each check.
+// Kept: facts on a book and a number: a type of the number would hold the loan of a book that the effect changes.
 // Kept: rows are written by place, since a function that lends a `&mut` to an element of an array gets no proof.
 ghost use Rattle.std.specs.Prelude.{◌≡◌, ◌+◌, ◌<◌, true};
 ghost use Rattle.draws.specs.Checks.{checked};
@@ -7,13 +7,13 @@ ghost use Rattle.ledger.specs.Tables.{RowNumber};
 ghost use Rattle.ledger.specs.Lookups.{has_account, has_series};
 ghost use Rattle.exercise.specs.Requests.{request_checks, request_added, has_pending, rejection_checks, request_rejected, denial_checks, denial_noted};
 
-use ledger::{Ledger, Refusal, Request, State, is_within};
+use ledger::{Ledger, Refusal, Request, State, is_within, limits};
 
 // Why an exercise request is turned back, if it is.
 pub fn check_request(book: &Ledger, account: u32, series: u32, quantity: u32) -> Result<(), Refusal>
     ensures { result ≡ checked (request_checks book.now.state account series quantity) }
 {
-    if !is_within(quantity, 1, 100_000) {
+    if !is_within(quantity, 1, limits::CONTRACTS) {
         return Err(Refusal::OutOfRange);
     }
     if !book.state.has_account(account) {
@@ -25,7 +25,7 @@ pub fn check_request(book: &Ledger, account: u32, series: u32, quantity: u32) ->
     if book.state.expired(series) {
         return Err(Refusal::Expired);
     }
-    if book.state.requests.count >= 128 {
+    if book.state.requests.room() == 0 {
         return Err(Refusal::Full);
     }
     Ok(())
@@ -74,7 +74,7 @@ pub fn reject_request(book: &mut State, n: u32)
 pub fn check_denial(book: &Ledger, account: u32, series: u32, quantity: u32) -> Result<(), Refusal>
     ensures { result ≡ checked (denial_checks book.now.state account series quantity) }
 {
-    if quantity > 100_000 {
+    if quantity > limits::CONTRACTS {
         return Err(Refusal::OutOfRange);
     }
     if !book.state.has_account(account) {

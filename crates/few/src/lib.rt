@@ -17,6 +17,7 @@ pub struct Few<T, const N: usize> {
     ghost within: { count ≤ N },
 }
 
+// Kept: Clone can't be derived over a ghost field with a type parameter.
 impl<T: Copy, const N: usize> Copy for Few<T, N> {}
 
 impl<T: Copy, const N: usize> Clone for Few<T, N> {

@@ -2,6 +2,7 @@
 #![tactic(auto)]
 
 mod ledger;
+pub mod limits;
 mod lookups;
 mod refusal;
 mod state;

@@ -75,7 +75,7 @@ impl State {
     }
 
     // An account's cell in a series, both by number.
-    // Kept: the one place where a cell is looked up by both numbers.
+    // Kept: cells are an array by account and no Table, so the account's number is made a place here.
     pub fn cell(&self, account: u32, series: u32) -> Cell
         requires { RowNumber 32 account × RowNumber 32 series }
         ensures { result ≡ cell_at self.now account series }

@@ -60,7 +60,7 @@ pub struct Request {
 }
 
 // Up to N rows, of which the first `count` are in use. Rows are numbered from 1.
-// Kept: an array with its count, since nothing is on a heap here, each capacity is a rule, and the law names both.
+// Kept: no heap, and no Few: laws name rows and count, and `one_more` makes a table of any count (no ghost field).
 #[derive(Clone, Copy, Debug, PartialEq, Eq)]
 pub struct Table<T, const N: usize> {
     pub rows: [T; N],
@@ -87,6 +87,7 @@ pub struct House {
 pub struct State {
     pub terms: Terms,
     pub day: u32,
+    // Kept: 0 is before every day, so `expires` has one rule for the first day and all others; an Option has two.
     pub previous: u32,
     pub stage: Stage,
     // Kept: there is no value that goes with it.

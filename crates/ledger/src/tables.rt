@@ -1,5 +1,4 @@
-// Kept: rows are written by place, since a function that lends a `&mut` to an element of an array gets no proof.
-ghost use Rattle.std.specs.Prelude.{◌≡◌, ◌+◌, ◌<◌, ◌≤◌};
+ghost use Rattle.std.specs.Prelude.{◌≡◌, ◌+◌, ◌-◌, ◌<◌, ◌≤◌};
 ghost use Rattle.ledger.specs.Tables.{new_account, new_series, opening, cells_of, with_cells, empty_table, RowNumber, row_of, in_use, one_more, leg_rebooked, leg_stepped};
 ghost use Rattle.ledger.specs.Lookups.{has};
 
@@ -46,7 +45,7 @@ impl State {
     }
 
     // The cells of the series at a place.
-    // Kept: the place, as the definitions of a series' cells have it.
+    // Kept: the place, as `cells_of` and `with_cells` have it; a public function takes what it took.
     pub fn cells(&self, at: usize) -> [Cell; 32]
         requires { at < 32 }
         ensures { result ≡ cells_of self.now at }
@@ -55,7 +54,7 @@ impl State {
     }
 
     // Replaces them.
-    // Kept: the place, as in `cells`.
+    // Kept: the place, as `cells_of` and `with_cells` have it; a public function takes what it took.
     pub fn put_cells(&mut self, at: usize, cells: [Cell; 32])
         requires { at < 32 }
         ensures { self.new ≡ with_cells self.old at cells }
@@ -125,6 +124,14 @@ impl<T: Copy, const N: usize> Table<T, N> {
         &self.rows[..self.count as usize]
     }
 
+    // How many rows are not in use.
+    pub fn room(&self) -> u32
+        requires { N ≤ 4_294_967_295 }
+        ensures { result ≡ N - self.now.count }
+    {
+        (N as u32).saturating_sub(self.count)
+    }
+
     // One row more; its number.
     pub fn push(&mut self, row: T) -> u32
         requires { (self.old.count < N) × (N ≤ 4_294_967_295) }
@@ -139,6 +146,7 @@ impl<T: Copy, const N: usize> Table<T, N> {
 
 impl Legs {
     // Books the leg at a place anew in another account.
+    // Kept: the place, as `leg_rebooked` has it; a public function takes what it took.
     pub fn rebook(&mut self, at: usize, account: u32, closed: u32)
         requires { at < 256 }
         ensures { self.new ≡ leg_rebooked self.old at account closed }
@@ -147,6 +155,7 @@ impl Legs {
     }
 
     // Lets the leg at a place take an event.
+    // Kept: the place, as `leg_stepped` has it; a public function takes what it took.
     pub fn step(&mut self, at: usize, event: LegEvent)
         requires { at < 256 }
         ensures { self.new ≡ leg_stepped self.old at event }

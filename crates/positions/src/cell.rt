@@ -1,5 +1,5 @@
-// Kept: fields of a leg are parameters, since a leg is whole only when its closed part is known.
-// Kept: facts on how many contracts there are have another number for each step, so no type has them all.
+// Kept: fields of a leg: a `&Leg` would ask callers for an account, a series, a price and a state besides.
+// Kept: facts on counts: a step's result may be over the limit that the step asks, so one bounded type fits neither.
 ghost use Rattle.std.specs.Prelude.{◌≡◌, ◌≤◌};
 ghost use Rattle.positions.specs.Cells.{no_cell, with_sides, on_side, closing, booked, unbooked, given, received, with_denied, netted, undenied, with_due, carried, AtMost};
 

@@ -13,7 +13,7 @@ pub enum Criterion {
 
 impl Criterion {
     // The criterion of a form that is 1 or 2.
-    // Kept: made of two numbers of the archive's lines, and total, as the definition is; so this is no From.
+    // Kept: total, as the definition is; `from` of two bare numbers would not say which is the form.
     pub fn of_form(form: u32, value: u32) -> Criterion
         ensures { result ≡ criterion_of_form form value }
     {

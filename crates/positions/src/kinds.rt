@@ -1,6 +1,6 @@
 // Kept: codes are read by `try_from`; `of_code` is total, as the definitions are, for a code that was judged before.
 ghost use Rattle.std.specs.Prelude.{◌≡◌};
-ghost use Rattle.positions.specs.Kinds.{side_of_code, effect_of_code, right_of_code, type_of_code, decoded, is_net, same_right};
+ghost use Rattle.positions.specs.Kinds.{side_of_code, effect_of_code, right_of_code, type_of_code, decoded, is_net};
 
 use std::error::Error;
 use std::fmt;
@@ -111,12 +111,6 @@ impl Right {
         ensures { result ≡ right_of_code code }
     {
         Right::try_from(code).unwrap_or(Right::Put)
-    }
-
-    pub fn is(self, other: Right) -> bool
-        ensures { result ≡ same_right self other }
-    {
-        self == other
     }
 }
 

@@ -6,7 +6,7 @@ use crate::cell::Cell;
 use crate::kinds::{Effect, Side};
 
 // A leg is free, or held for a participant that may take it up.
-// Kept: as an Option of the participant it would not say what is held, nor would its match with the event.
+// Kept: state and event meet in one match, as this project asks; rule and laws name both, an Option has no names.
 #[derive(Clone, Copy, Debug, PartialEq, Eq)]
 pub enum LegState {
     Free,
@@ -73,7 +73,7 @@ impl Leg {
     }
 
     // The cell that the leg leaves.
-    // Kept: facts on how many contracts there are have another number for each step, so no type has them all.
+    // Kept: facts on counts: a step's result may be over the limit that it asks, so one bounded type fits neither.
     pub fn left_by(&self, cell: &Cell) -> Cell
         requires part { self.now.closed ≤ self.now.quantity }
         requires few { self.now.quantity ≤ 100_000 }

@@ -1,6 +1,6 @@
-// Kept: rows are written by place, since a function that lends a `&mut` to an element of an array gets no proof.
-// Kept: fields of a leg are parameters, since a leg is whole only when its closed part is known.
-// Kept: facts on how many contracts there are have another number for each step, so no type has them all.
+// Kept: rows: the cells with a place, as `placed` has them; a method of the cell would leave `placed` to each caller.
+// Kept: fields of a leg: a `&Leg` would ask callers for an account, a series, a price and a state besides.
+// Kept: facts on counts: a step's result may be over the limit that the step asks, so one bounded type fits neither.
 ghost use Rattle.std.specs.Prelude.{◌≡◌, ◌<◌, ◌≤◌, slice_index_or};
 ghost use Rattle.positions.specs.Cells.{no_cell, closing};
 ghost use Rattle.positions.specs.Rows.{total_longs, placed, Below};

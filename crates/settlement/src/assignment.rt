@@ -1,4 +1,4 @@
-// Kept: fields of one allocation are parameters, as `allocate` has them.
+// Kept: fields of one allocation, as `allocate` has them.
 ghost use Rattle.std.specs.Prelude.{◌≡◌, ℕ, ◌≤◌, map, length, get_or, None, sum, slice_index};
 ghost use Rattle.std.specs.List.{range_with_len};
 ghost use Rattle.draws.specs.Meaning.{behind_all};
@@ -78,6 +78,7 @@ fn settle_all(
 }
 
 // Settles each account's cell in a series where nothing is exercised.
+// Kept: a loop of its own, without the terms of an assignment that isn't made.
 // Kept: yes or no, with no value beside it.
 fn settle_none(cells: &mut [Cell; 32], lapses: bool)
     requires { (j : ℕ) → (get_or cells.old j no_cell).due ≤ (get_or cells.old j no_cell).longs }

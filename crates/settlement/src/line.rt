@@ -33,7 +33,7 @@ pub struct Line {
 }
 
 // What the lines of one series share.
-// Kept: functions ask that the size is at most 10,000, since the laws and the statement's definitions take any size.
+// Kept: no ghost field for `size`: laws and definitions are of terms of any size, and would be said of fewer.
 #[derive(Clone, Copy, Debug, PartialEq, Eq)]
 pub struct SeriesTerms {
     pub series: u32,

@@ -22,7 +22,7 @@ fn lines_of(terms: &SeriesTerms, account: u32, cell: &Cell) -> [Line; 3]
 }
 
 // A slice of lines, and the place of the next line in it.
-// Kept: the slice with the place, since the lines go into a lent slice and the place is what is answered.
+// Kept: the place: the statement is written into a lent slice by place, as this project asks.
 #[derive(Drop)]
 struct Writer<'a> {
     lines: &'a mut [Line],
@@ -62,7 +62,7 @@ impl Writer<'_> {
 }
 
 // Writes the lines of one series from a place on, and answers the place after them.
-// Kept: the place, since the definitions tell lines by their place in the whole slice.
+// Kept: the place: the statement is written into a lent slice by place, as this project asks.
 pub fn write_series(lines: &mut [Line], at: usize, terms: &SeriesTerms, cells: &[Cell; 32]) -> usize
     requires fits { at + lines_needed cells.now ≤ length lines.old }
     requires counts { (j : ℕ) → Countable (slice_index_or cells.now j no_cell) }

@@ -1,6 +1,6 @@
 // Kept: codes come as they were called in; a parameter of the enum would ask callers to have judged them.
-// Kept: fields of a call, at most four, are parameters here as at the call; five or more are a struct, as `Trade`.
-// Kept: facts about a book that is lent can't go into a type of the number that they are about.
+// Kept: fields of a call: a struct of two to four numbers would be made at each call and opened in each check.
+// Kept: facts on a book and a number: a type of the number would hold the loan of a book that the effect changes.
 // Kept: rows are written by place, since a function that lends a `&mut` to an element of an array gets no proof.
 ghost use Rattle.std.specs.Prelude.{◌≡◌, ◌-◌, ◌≤◌, true, slice_index_or, if◌then◌else◌, Some, None, IfSome};
 ghost use Rattle.draws.specs.Checks.{checked};
@@ -13,7 +13,7 @@ ghost use Rattle.ledger.specs.Lookups.{has_account, has_series, has_leg};
 ghost use Rattle.transfers.specs.Transfers.{rebooking_in, rebooking_of, still_there, rebooking_checks, transferred, transfer_checks, give_up_checks, given_up, confirms, take_up_checks, taken_up, position_checks, position_moved};
 ghost use Rattle.ledger.specs.Sound.{Facts, ValidLeg};
 
-use ledger::{Ledger, PositionTransfer, Refusal, State, is_free, is_held_for, is_within};
+use ledger::{Ledger, PositionTransfer, Refusal, State, is_free, is_held_for, is_within, limits};
 use positions::{Cell, Leg, LegEvent, Side, place, total_longs};
 
 // What a leg's transfer does to its series: the cells after it, and the leg's closed part in its new account.
@@ -52,7 +52,7 @@ fn rebooking_of(book: &Ledger, leg: &Leg, account: u32) -> Rebooking
     requires enough { still_there book.now.state leg.now ≡ true }
     ensures { result ≡ rebooking_of book.now.state leg.now account }
 {
-    let mut cells = book.state.cells(leg.series as usize - 1);
+    let mut cells = book.state.series.row(leg.series).cells;
     let closed = rebook(&mut cells, leg, account);
     Rebooking { cells, closed }
 }
@@ -76,7 +76,7 @@ fn check_rebooking(book: &Ledger, leg: &Leg, account: u32) -> Result<(), Refusal
     if leg.open_part() > cell.on_side(leg.side) {
         return Err(Refusal::TooFew);
     }
-    if total_longs(&rebooking_of(book, leg, account).cells) > 100_000 {
+    if total_longs(&rebooking_of(book, leg, account).cells) > u64::from(limits::CONTRACTS) {
         return Err(Refusal::TooMany);
     }
     Ok(())
@@ -118,7 +118,7 @@ pub fn transfer(book: &mut State, leg: u32, account: u32)
 pub fn check_give_up(book: &Ledger, leg: u32, participant: u32) -> Result<(), Refusal>
     ensures { result ≡ checked (give_up_checks book.now.state leg participant) }
 {
-    if !is_within(participant, 1, 99) {
+    if !is_within(participant, 1, limits::PARTICIPANT) {
         return Err(Refusal::OutOfRange);
     }
     let booked = find_leg(book, leg).ok_or(Refusal::NoLeg)?;
@@ -142,7 +142,7 @@ pub fn give_up(book: &mut Ledger, leg: u32, participant: u32)
 }
 
 // Why a take-up is turned back, if it is.
-// Kept: the answer is the archive's number.
+// Kept: answer and account as called in: an Option of the account has no place for 3, or for 2 with an account.
 pub fn check_take_up(book: &Ledger, leg: u32, answer: u32, account: u32) -> Result<(), Refusal>
     ensures { result ≡ checked (take_up_checks book.now.state leg answer account) }
 {
@@ -189,7 +189,7 @@ pub fn check_position(book: &Ledger, t: &PositionTransfer) -> Result<(), Refusal
     ensures { result ≡ checked (position_checks book.now.state t.now) }
 {
     let side = Side::try_from(t.side).map_err(|_| Refusal::OutOfRange)?;
-    if !is_within(t.quantity, 1, 100_000) {
+    if !is_within(t.quantity, 1, limits::CONTRACTS) {
         return Err(Refusal::OutOfRange);
     }
     if !book.state.has_account(t.from) || !book.state.has_account(t.to) {
