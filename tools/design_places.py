@@ -36,7 +36,7 @@ def covers(text):
     """What each `// Kept:` of a file speaks of: first and last line, and the points (None for all)."""
     lines = text.split("\n")
     for i, text in enumerate(lines):
-        m = re.match(r"\s*// Kept: (\w+)", text)
+        m = re.match(r"\s*// Kept: (\w*)", text)
         if not m:
             continue
         first = i

@@ -109,6 +109,7 @@ impl<T: Copy, const N: usize> Table<T, N> {
     }
 
     // The row of a number.
+    // Kept: rows are numbered from 1, and this is where the number becomes a place.
     pub fn row(&self, n: u32) -> &T
         requires { RowNumber N n }
         ensures { (d : T) → result.now ≡ row_of self.now n d }
