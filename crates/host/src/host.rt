@@ -17,7 +17,7 @@ use crate::places::{NO_LINE, text_at};
 use crate::unread::Unread;
 use book::{Book, InputPass, Pass};
 use ledger::Refusal;
-use lines::{Answer, Text, fill, fill_faulty, read_input};
+use lines::{Text, fill, fill_faulty, read_input};
 use parts::Line as ReadLine;
 use register::{Call, Done, Opening};
 use settlement::Line;
@@ -133,12 +133,7 @@ impl Host {
         };
         let kind = read.kind();
         let answer = self.take(kind, numbers.as_slice());
-        let reply = reply_of(answer);
-        let filling = Answer {
-            reply: reply.number,
-            result: reply.result,
-        };
-        fill(text, line, filling);
+        fill(text, line, reply_of(answer));
         statements_after(kind, answer)
     }
 

@@ -12,5 +12,5 @@ pub use parts::{Filled, Line, Numbers};
 pub use read::{Faulty, read_filled, read_input};
 pub use text::Text;
 pub use write::{
-    Answer, fill, fill_faulty, write_faulty, write_filled, write_input_numbers, write_numbers,
+    fill, fill_faulty, write_faulty, write_filled, write_input_numbers, write_numbers,
 };

@@ -1,7 +1,8 @@
 // Lines read and written.
+use draws::Reply;
 use lines::{
-    Answer, Line, Row, Text, fill, fill_faulty, find, number, read_filled, read_input,
-    write_faulty, write_filled, write_input_numbers, write_numbers,
+    Line, Row, Text, fill, fill_faulty, find, number, read_filled, read_input, write_faulty,
+    write_filled, write_input_numbers, write_numbers,
 };
 use statements::{Sort, StatementLine, read_statement, rewrite, write_statement};
 use std::test::Fail;
@@ -40,10 +41,10 @@ const FILLED: [&[u8]; 6] = [
     b"13 99999999 99999999 99999999 99999999 99999999 99999999 99999999 : 99999999 99999999\n",
 ];
 
-fn answer(reply: u32, number: u32) -> Answer {
-    Answer {
-        reply,
-        result: number,
+fn answer(number: u32, res: u32) -> Reply {
+    Reply {
+        number,
+        result: res,
     }
 }
 
