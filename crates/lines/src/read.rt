@@ -1,7 +1,7 @@
 // Reading input lines and filled lines.
 ghost use Rattle.std.specs.Prelude.{◌≡◌, ℕ, ◌-◌, ◌≤◌, min, List, length, MatchResult};
 ghost use Rattle.grammar.specs.Kinds.{kinds_of, kinds, filled_kinds};
-ghost use Rattle.grammar.specs.Grammar.{Piece, Delim, StartRead, Stuck, Lines, feed, answer};
+ghost use Rattle.grammar.specs.Grammar.{Piece, Delim, Writes, StartRead, AnswerRead, Stuck, Lines, feed, answer};
 ghost use Rattle.parts.specs.Parts.{kind_of, parts_of};
 ghost use Rattle.lines.specs.Lines.{IsInput, IsFilled, LongestStart};
 ghost use Rattle.lines.specs.Reads.{ReadsInput, ReadsFilled};
@@ -53,16 +53,23 @@ pub fn read_input<'a>(line: &'a [u8]) -> Result<Line<'a>, Faulty>
     scan_input(line).map_err(|left| Faulty::of(line, left))
 }
 
-fn scan_filled<'a>(line: &'a [u8]) -> Result<Filled<'a>, usize>
-    ensures { MatchResult result (λ f. ReadsFilled line.now f) (λ left. Stuck (Lines filled_kinds answer) line.now left) }
+// A line that was read, with the answer that follows its fields.
+fn with_answer<'a>(line: Line<'a>, end: &'a [u8]) -> Result<Filled<'a>, usize>
+    ensures { MatchResult result (λ f. (f.line ≡ line.entry) × AnswerRead end.now f.reply.now f.result.now) (λ left. Stuck (Writes answer) end.now left) }
 {
-    let (line, end) = line_start(line, Sort::Filled)?;
     let (reply, result) = read_answer(end)?;
     Ok(Filled {
         line,
         reply,
         result,
     })
+}
+
+fn scan_filled<'a>(line: &'a [u8]) -> Result<Filled<'a>, usize>
+    ensures { MatchResult result (λ f. ReadsFilled line.now f) (λ left. Stuck (Lines filled_kinds answer) line.now left) }
+{
+    let (read, end) = line_start(line, Sort::Filled)?;
+    with_answer(read, end)
 }
 
 // Reads a filled line.

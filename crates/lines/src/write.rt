@@ -27,11 +27,18 @@ fn faulty_reply(length: u32) -> Reply
     }
 }
 
+// Whether each number has at most 8 digits.
+fn are_short(numbers: &[u32]) -> bool
+    ensures { Decides result (AllByRecursion (Short 8) numbers.now) }
+{
+    all_below(numbers, LIMIT)
+}
+
 // Whether number and result have at most 8 digits.
 fn is_short(reply: Reply) -> bool
     ensures { Decides result (Short 8 reply.number × Short 8 reply.result) }
 {
-    u64::from(reply.number) < LIMIT && u64::from(reply.result) < LIMIT
+    are_short(&[reply.number, reply.result])
 }
 
 // Whether lines of the sort have the kind, with so many fields.
@@ -123,7 +130,7 @@ fn start_text(kind: u8, numbers: &[u32]) -> Text
 pub fn write_input_numbers(kind: u8, fields: &[u32]) -> Option<Text>
     ensures { WrittenAs result (InputLine kind fields.now) }
 {
-    if !is_known(Sort::Input, kind, fields.len()) || !all_below(fields, LIMIT) {
+    if !is_known(Sort::Input, kind, fields.len()) || !are_short(fields) {
         return None;
     }
     let mut text = start_text(kind, fields);
@@ -135,10 +142,7 @@ pub fn write_input_numbers(kind: u8, fields: &[u32]) -> Option<Text>
 pub fn write_numbers(kind: u8, fields: &[u32], reply: Reply) -> Option<Text>
     ensures { WrittenAs result (FilledLine kind fields.now reply.number reply.result) }
 {
-    if !is_known(Sort::Filled, kind, fields.len())
-        || !all_below(fields, LIMIT)
-        || !is_short(reply)
-    {
+    if !is_known(Sort::Filled, kind, fields.len()) || !are_short(fields) || !is_short(reply) {
         return None;
     }
     let mut text = start_text(kind, fields);
