@@ -4,3 +4,4 @@ pub mod Rows
 pub mod Tables
 pub mod Maps
 pub mod Tens
+pub mod Values

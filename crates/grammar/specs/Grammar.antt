@@ -99,6 +99,12 @@ pub record FieldsRead (d n m : ℕ) (xs : List ℕ) (texts : List (List ℕ)) (r
   pub numbers : AllByRecursion (IsNumber d) texts
   pub reached : (t : List Piece) → Delim t → Reached (Writes (shape d n t)) (Writes (shape d m t)) (flat_map blanked texts) (map (digits_value 10) texts) rest
 
+-- the same by the numbers of the fields
+pub record FieldNumbers (n m : ℕ) (xs ns rest : List ℕ) : Type 0 where
+  pub texts : List (List ℕ)
+  pub are : ns ≡ map (digits_value 10) texts
+  pub read : FieldsRead 8 n m xs texts rest
+
 -- a table of two-digit kinds with at most 7 fields
 pub record Table (rows : List Row) : Type 0 where
   pub two_digits : (k n : ℕ) → arity rows k ≡ Some n → (10 ≤ k) × (k < 100) × (n ≤ 7)
@@ -134,6 +140,18 @@ pub record StartRead (rows : List Row) (xs : List ℕ) (k : ℕ) (texts : List (
   pub numbers : AllByRecursion (IsNumber 8) texts
   pub split : xs ≡ (decimal k ++ flat_map blanked texts) ++ rest
   pub reached : (t : List Piece) → Delim t → Reached (Lines rows t) (Writes t) (decimal k ++ flat_map blanked texts) (k ∷ map (digits_value 10) texts) rest
+
+-- each number after a blank
+abbrev pub numbered : List ℕ → List ℕ
+numbered ns = flat_map (λ n. blanked (decimal n)) ns
+
+-- a kind of the table and the numbers of its n fields are read from xs
+pub record NumbersRead (rows : List Row) (xs : List ℕ) (k n : ℕ) (ns rest : List ℕ) : Type 0 where
+  pub known : arity rows k ≡ Some n
+  pub count : length ns ≡ n
+  pub short : AllByRecursion (Short 8) ns
+  pub split : xs ≡ (decimal k ++ numbered ns) ++ rest
+  pub reached : (t : List Piece) → Delim t → Reached (Lines rows t) (Writes t) (decimal k ++ numbered ns) (k ∷ ns) rest
 
 -- xs is written with the numbers ns, and with no others
 pub record Done (G : List ℕ → List ℕ → Type 0) (xs ns : List ℕ) : Type 0 where

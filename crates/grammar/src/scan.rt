@@ -1,9 +1,9 @@
 // A scan of a line from left to right. An `Err` has the number of bytes left where it got stuck.
-ghost use Rattle.std.specs.Prelude.{◌≡◌, ◌+◌, ◌<◌, List, [], ◌∷◌, map, length, take, Some, MatchOption, MatchResult, ◌≢◌};
+ghost use Rattle.std.specs.Prelude.{◌≡◌, ◌+◌, ◌<◌, List, [], ◌∷◌, map, length, take, drop, Some, MatchOption, MatchResult, ◌≢◌};
 ghost use Rattle.std.specs.Str.Parse.{digits_value};
 ghost use Rattle.std.specs.Int.{IsInRange};
 ghost use Rattle.grammar.specs.Kinds.{kinds_of, IsNumber};
-ghost use Rattle.grammar.specs.Grammar.{Piece, num, Writes, Wide, Delim, shape, first, room, Run, Stuck, NumberRead, FieldsRead, Lines, Table, KindRead, SecondRead, NoSecond, Leads, StartRead, Done, AnswerRead, feed, answer};
+ghost use Rattle.grammar.specs.Grammar.{Piece, num, Writes, Wide, Delim, shape, first, room, Run, Stuck, NumberRead, FieldsRead, FieldNumbers, Lines, Table, KindRead, SecondRead, NoSecond, Leads, StartRead, NumbersRead, Done, AnswerRead, feed, answer};
 
 use super::kinds::{Row, Sort, fields_of, kinds_of};
 
@@ -160,6 +160,28 @@ pub fn read_start<'a>(
     let head = read_kind(line, kinds_of(sort))?;
     let rest = fields(head.rest, DIGITS, &mut out[..head.fields])?;
     Ok(Head { rest, ..head })
+}
+
+// The numbers of as many fields as `out` has places, and what follows.
+fn field_numbers<'a>(s: &'a [u8], out: &mut [u32]) -> Result<&'a [u8], usize>
+    ensures { MatchResult result (λ rest. FieldNumbers (length out.old) 0 s.now out.new rest.now) (λ left. (ps : List Piece) → Delim ps → Stuck (Writes (shape 8 (length out.old) ps)) s.now left) }
+{
+    let mut rest = s;
+    for place in out.iter_mut() {
+        let (digits, more) = field(rest, DIGITS)?;
+        *place = value_of(digits) as u32;
+        rest = more;
+    }
+    Ok(rest)
+}
+
+// The kind and the numbers at the start of a line of a sort: the numbers come to the front of `out`.
+pub fn read_numbers<'a>(line: &'a [u8], sort: Sort, out: &mut [u32; 7]) -> Result<Head<'a>, usize>
+    ensures { MatchResult result (λ h. NumbersRead (kinds_of sort) line.now h.kind h.fields (take h.fields out.new) h.rest.now × (drop h.fields out.new ≡ drop h.fields out.old)) (λ left. (t : List Piece) → Delim t → Stuck (Lines (kinds_of sort) t) line.now left) }
+{
+    let mut head = read_kind(line, kinds_of(sort))?;
+    head.rest = field_numbers(head.rest, &mut out[..head.fields])?;
+    Ok(head)
 }
 
 // A line feed, and nothing after it.

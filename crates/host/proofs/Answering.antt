@@ -3,10 +3,8 @@ use Rattle.std.proofs.Common.{◌≡◌, Some, ℕ, ◌<◌, ◌≤◌, List, []
 use Rattle.std.proofs.lemmas.List.{take_all, take-take, length-take-le}
 use Rattle.std.proofs.lemmas.Bool.{cases_lt}
 use Rattle.draws.specs.declared.Reply.{Reply}
-use Rattle.parts.specs.declared.line.Line.{Line}
-use Rattle.lines.specs.Lines.{FilledLine, IsInput, Begins, LongestStart, answer_text, before_feed, filled_line}
-use Rattle.parts.specs.Parts.{kind_of, numbers_of}
-use Rattle.lines.specs.Reads.{ReadsInput}
+use Rattle.lines.specs.Lines.{InputLine, FilledLine, IsInput, Begins, LongestStart, answer_text, before_feed, filled_line}
+use Rattle.lines.specs.Reads.{ReadsNumbers}
 use Rattle.lines.proofs.Filling.{fills, fills_faulty}
 use Rattle.lines.proofs.Lengths.{input_length, input_start}
 use Rattle.register.specs.Register.{Brief}
@@ -15,31 +13,30 @@ use Rattle.lines.specs.declared.text.Text.{Text}
 use Rattle.lines.specs.Texts.{cut, text_of}
 use Rattle.host.specs.Hosts.{statements_after, Answers, FillsText, AnswersText}
 
-pub fills_of : (h : Shown) (l : Line) (w : List ℕ) (k : ℕ) (ns : List ℕ) (r : Reply) (text : List ℕ) (statements : ℕ) (after : Shown)
-    → ReadsInput w l → k ≡ kind_of l → ns ≡ numbers_of l
+pub fills_of : (h : Shown) (k : ℕ) (ns w : List ℕ) (r : Reply) (text : List ℕ) (statements : ℕ) (after : Shown)
+    → InputLine k ns w
     → r ≡ (host_step h k ns).reply → Brief r → after ≡ (host_step h k ns).after
     → text ≡ cut (before_feed w ++ answer_text r.number r.result) → statements ≡ statements_after k r
-    → FillsText h (kind_of l) (numbers_of l) text statements after
-fills_of h l w k ns r text statements after reads ek en er b ea t f =
-    let rs : r ≡ (host_step h (kind_of l) (numbers_of l)).reply = er ∙ ap (λ x. (host_step h x ns).reply) ek ∙ ap (λ x. (host_step h (kind_of l) x).reply) en in
-    let P : List ℕ → Type 0 = λ x. FilledLine (kind_of l) (numbers_of l) r.number r.result x in
-    let R : Reply → Type 0 = λ x. FilledLine (kind_of l) (numbers_of l) x.number x.result text in
+    → FillsText h k ns text statements after
+fills_of h k ns w r text statements after line er b ea t f =
+    let P : List ℕ → Type 0 = λ x. FilledLine k ns r.number r.result x in
+    let R : Reply → Type 0 = λ x. FilledLine k ns x.number x.result text in
     record {
-      text_is = subst R rs (subst P (sym t) (fills (kind_of l) (numbers_of l) w r.number r.result reads.is b.0 b.1));
-      follow = f ∙ ap (λ x. statements_after x r) ek ∙ ap (statements_after (kind_of l)) rs;
-      held = ea ∙ ap (λ x. (host_step h x ns).after) ek ∙ ap (λ x. (host_step h (kind_of l) x).after) en;
+      text_is = subst R er (subst P (sym t) (fills k ns w r.number r.result line b.0 b.1));
+      follow = f ∙ ap (statements_after k) er;
+      held = ea;
     }
 
 -- a line that is read is no faulty one, and has no other numbers
-pub read_answers : (h : Shown) (w : List ℕ) (l : Line) (text : List ℕ) (n : ℕ) (after : Shown) → ReadsInput w l → FillsText h (kind_of l) (numbers_of l) text n after → AnswersText h w text n after
-read_answers h w l text n after reads f =
+pub read_answers : (h : Shown) (w : List ℕ) (k : ℕ) (ns text : List ℕ) (n : ℕ) (after : Shown) → ReadsNumbers w k ns → FillsText h k ns text n after → AnswersText h w text n after
+read_answers h w k ns text n after reads f =
     record {
-      fills = λ k ns i.
-          let o = reads.only k ns i in
-          let P : ℕ → Type 0 = λ x. FillsText h x (numbers_of l) text n after in
-          let Q : List ℕ → Type 0 = λ x. FillsText h k x text n after in
+      fills = λ j ms i.
+          let o = reads.only j ms i in
+          let P : ℕ → Type 0 = λ x. FillsText h x ns text n after in
+          let Q : List ℕ → Type 0 = λ x. FillsText h j x text n after in
           subst Q (sym o.1) (subst P (sym o.0) f);
-      faults = λ m s. absurd (s.no_line (kind_of l, numbers_of l, reads.is));
+      faults = λ m s. absurd (s.no_line (k, ns, reads.is));
     }
 
 one_start : (w : List ℕ) (m n : ℕ) → LongestStart IsInput w m → LongestStart IsInput w n → m < n → ⊥
@@ -88,8 +85,8 @@ begun_answers h w line text n after e a =
     (λ short. subst A (sym e ∙ take_all 170 w (omega arith)) a)
     (cases_lt 170 (length w))
 
-pub read_begun : (h : Shown) (w : List ℕ) (l : Line) (text : List ℕ) (n : ℕ) (after : Shown) → ReadsInput w l → FillsText h (kind_of l) (numbers_of l) text n after → (v : List ℕ) → cut v ≡ w → AnswersText h v text n after
-read_begun h w l text n after reads f v e = begun_answers h v w text n after e (read_answers h w l text n after reads f)
+pub read_begun : (h : Shown) (w : List ℕ) (k : ℕ) (ns text : List ℕ) (n : ℕ) (after : Shown) → ReadsNumbers w k ns → FillsText h k ns text n after → (v : List ℕ) → cut v ≡ w → AnswersText h v text n after
+read_begun h w k ns text n after reads f v e = begun_answers h v w text n after e (read_answers h w k ns text n after reads f)
 
 pub faulty_begun : (h : Shown) (w : List ℕ) (m : ℕ) (text : List ℕ) → LongestStart IsInput w m × (m ≤ 66) → text ≡ cut (filled_line 99 [] 2 m) → (v : List ℕ) → cut v ≡ w → AnswersText h v text 0 h
 faulty_begun h w m text s t v e = begun_answers h v w text 0 h e (faulty_answers h w m text s t)

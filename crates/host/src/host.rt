@@ -2,10 +2,8 @@ ghost use Rattle.std.specs.Prelude.{◌≡◌, ℕ, ◌<◌, ◌≤◌, List, []
 ghost use Rattle.book.specs.declared.pass.Pass.TheVariants.{ForInput};
 ghost use Rattle.register.specs.declared.calls.Call.TheVariants.{Open};
 ghost use Rattle.register.specs.Register.{replied, Brief};
-ghost use Rattle.lines.specs.Lines.{StatementText};
+ghost use Rattle.lines.specs.Lines.{InputLine, StatementText};
 ghost use Rattle.lines.specs.Texts.{cut, text_of, WrittenAs};
-ghost use Rattle.parts.specs.Parts.{kind_of, numbers_of};
-ghost use Rattle.lines.specs.Reads.{ReadsInput};
 ghost use Rattle.host.specs.Numbers.{unread_of};
 ghost use Rattle.host.specs.Places.{empty_line, numbers_at};
 ghost use Rattle.host.specs.Steps.{start_step, make_step, host_step};
@@ -17,8 +15,7 @@ use crate::places::{NO_LINE, text_at};
 use crate::unread::Unread;
 use book::{Book, InputPass, Pass};
 use ledger::Refusal;
-use lines::{Answer, Text, fill, fill_faulty, read_input};
-use parts::Line as ReadLine;
+use lines::{Text, fill, fill_faulty, read_numbers};
 use register::{Call, Done, Opening};
 use settlement::Line;
 
@@ -123,22 +120,13 @@ impl Host {
         }
     }
 
-    // Answers a line that was read.
-    fn answer_read(&mut self, read: &ReadLine<'_>, line: &[u8], text: &mut Text) -> usize
-        requires { ReadsInput line.now read.now }
-        ensures { FillsText (shown self.old) (kind_of read.now) (numbers_of read.now) (text_of text.new) result (shown self.new) }
+    // Answers a line that was read as its kind and numbers.
+    fn answer_read(&mut self, kind: u8, numbers: &[u32], line: &[u8], text: &mut Text) -> usize
+        requires { InputLine kind numbers.now line.now }
+        ensures { FillsText (shown self.old) kind numbers.now (text_of text.new) result (shown self.new) }
     {
-        let Some(numbers) = read.numbers() else {
-            unreachable()
-        };
-        let kind = read.kind();
-        let answer = self.take(kind, numbers.as_slice());
-        let reply = reply_of(answer);
-        let filling = Answer {
-            reply: reply.number,
-            result: reply.result,
-        };
-        fill(text, line, filling);
+        let answer = self.take(kind, numbers);
+        fill(text, line, reply_of(answer));
         statements_after(kind, answer)
     }
 
@@ -162,8 +150,9 @@ impl Host {
         ensures whole { AnswersText (shown self.old) line.now (text_of text.new) result (shown self.new) }
         ensures begun { (w : List ℕ) → cut w ≡ line.now → AnswersText (shown self.old) w (text_of text.new) result (shown self.new) }
     {
-        match read_input(line) {
-            Ok(read) => self.answer_read(&read, line, text),
+        let mut out = [0; 7];
+        match read_numbers(line, &mut out) {
+            Ok((kind, numbers)) => self.answer_read(kind, numbers, line, text),
             Err(faulty) => {
                 fill_faulty(text, faulty.start);
                 0

@@ -7,6 +7,7 @@ use Rattle.std.proofs.lemmas.Bool.{false≢true}
 use Rattle.std.proofs.lemmas.List.Elements.{recursion_from_All, All-from_recursion}
 use Rattle.grammar.specs.Kinds.{arity, kinds, filled_kinds, Short, IsNumber}
 use Rattle.grammar.specs.Grammar.{blanked}
+use Rattle.grammar.proofs.Values.{numbers_text, numbers_short}
 use Rattle.lines.specs.Lines.{fields_text, answer_text, InputLine, FilledLine}
 use Rattle.lines.specs.Reads.{FieldsFilled}
 use Rattle.lines.specs.Texts.{cut}
@@ -16,6 +17,10 @@ use Rattle.lines.proofs.Lengths.{input_length, filled_length}
 -- the kind, after nothing, and then the fields
 pub started : (k : ℕ) (new t u fs : List ℕ) → new ≡ [] → t ≡ cut (new ++ decimal k) → u ≡ cut (t ++ fs) → u ≡ cut (decimal k ++ fs)
 started k new t u fs e f g = cut_more 170 t u [] (decimal k) fs (cut_none 170 new t (decimal k) e f) g
+
+-- one byte, and then others
+pub one_before : (b : ℕ) (old t u xs : List ℕ) → t ≡ cut (old ++ (b ∷ [])) → u ≡ cut (t ++ xs) → u ≡ cut (old ++ (b ∷ xs))
+one_before b old t u xs e f = cut_more 170 t u old (b ∷ []) xs e f
 
 pub ended : (k : ℕ) (t u fs end : List ℕ) → length (decimal k ++ (fs ++ end)) ≤ 170 → t ≡ cut (decimal k ++ fs) → u ≡ cut (t ++ end) → u ≡ decimal k ++ (fs ++ end)
 ended k t u fs end l e f = cut_all 170 u (decimal k ++ (fs ++ end)) l (cut_more 170 t u [] (decimal k ++ fs) end e f ∙ ap cut (append_assoc (decimal k) fs end))
@@ -29,15 +34,6 @@ pub filled_made : (k : ℕ) (ns : List ℕ) (a b : ℕ) (t u : List ℕ) → ari
 filled_made k ns a b t u known short answer e f =
     let l = filled_length k ns a b (decimal k ++ (fields_text ns ++ answer_text a b)) (record { known = known; short = short; reply_short = answer.0; result_short = answer.1; is = refl }) in
     record { known = known; short = short; reply_short = answer.0; result_short = answer.1; is = ended k t u (fields_text ns) (answer_text a b) (omega arith) e f }
-
--- the fields as they stand are the writing of their numbers
-numbers_text : (ts : List (List ℕ)) → AllByRecursion (IsNumber 8) ts → flat_map blanked ts ≡ fields_text (map (digits_value 10) ts)
-numbers_text [] h = refl
-numbers_text (t ∷ ts) h = ap (λ l. 32 ∷ (l ++ flat_map blanked ts)) (sym h.0.1) ∙ ap (λ l. 32 ∷ (decimal (digits_value 10 t) ++ l)) (numbers_text ts h.1)
-
-numbers_short : (ts : List (List ℕ)) → AllByRecursion (IsNumber 8) ts → AllByRecursion (Short 8) (map (digits_value 10) ts)
-numbers_short [] h = tt
-numbers_short (t ∷ ts) h = (h.0.0, numbers_short ts h.1)
 
 pub fields_made : (k : ℕ) (ts : List (List ℕ)) (a b : ℕ) (t u : List ℕ) → arity filled_kinds k ≡ Some (length ts) → AllByRecursion (IsNumber 8) ts → Short 8 a × Short 8 b → t ≡ cut (decimal k ++ flat_map blanked ts) → u ≡ cut (t ++ answer_text a b) → FieldsFilled k ts a b u
 fields_made k ts a b t u known digits answer e f =

@@ -6,10 +6,10 @@ use Rattle.grammar.specs.declared.kinds.Sort.{Sort}
 use Rattle.grammar.specs.declared.kinds.Sort.TheVariants.{Input, Filled}
 use Rattle.grammar.specs.Kinds.{arity, kinds, filled_kinds, kinds_of, Short}
 use Rattle.lines.specs.Lines.{fields_text, InputLine, FilledLine, IsInput, IsFilled, LongestStart}
-use Rattle.grammar.specs.Grammar.{Piece, Writes, shape, feed, answer, Lines, first, Stuck, StartRead, Done, AnswerRead}
+use Rattle.grammar.specs.Grammar.{Piece, Delim, Writes, shape, feed, answer, Lines, first, Reached, Stuck, StartRead, Done, AnswerRead}
 use Rattle.parts.specs.declared.line.Line.{Line}
 use Rattle.parts.specs.Parts.{kind_of, parts_of, numbers_of}
-use Rattle.lines.specs.Reads.{ReadsInput, reply_of, result_of, ReadsFilled}
+use Rattle.lines.specs.Reads.{ReadsInput, ReadsNumbers, reply_of, result_of, ReadsFilled}
 use Rattle.parts.specs.declared.line.Filled as read
 use Rattle.lines.specs.declared.read.Faulty.{Faulty}
 use Rattle.parts.proofs.Cuts.{take_past}
@@ -128,22 +128,27 @@ start_made s w k f out rest l start made =
     let parts : parts_of l ≡ map (λ d. d.now) (take f out) = p.1 ∙ ap (λ x. map (λ d. d.now) (take x out)) n ∙ ap (map (λ d. d.now)) (take_own f out) in
     rw (p.0, parts) start
 
-pub input_read : (w : List ℕ) (rest : List ℕ) (l : Line) → StartRead kinds w (kind_of l) (parts_of l) rest → Done (Writes feed) rest [] → ReadsInput w l
-input_read w rest l start end =
-    let all : Done (Lines kinds feed) w ((kind_of l ∷ numbers_of l) ++ []) = rw start.split (done_after _ _ _ _ rest [] (start.reached feed not_digit_10) end) in
+-- a kind and numbers that are read to the line's end
+pub numbers_read : (w front rest : List ℕ) (k : ℕ) (ns : List ℕ) → w ≡ front ++ rest → ((t : List Piece) → Delim t → Reached (Lines kinds t) (Writes t) front (k ∷ ns) rest) → Done (Writes feed) rest [] → ReadsNumbers w k ns
+numbers_read w front rest k ns split reached end =
+    let all : Done (Lines kinds feed) w ((k ∷ ns) ++ []) = rw split (done_after _ _ _ _ rest [] (reached feed not_digit_10) end) in
     let p = input_from _ w all.is in
-    let e : ◌≡◌ {A = List ℕ} (kind_of l ∷ numbers_of l) (p.0 ∷ p.1) = sym (append-nil (kind_of l ∷ numbers_of l)) ∙ p.2 in
-    let ek : p.0 ≡ kind_of l = cc e in
-    let en : p.1 ≡ numbers_of l = cc e in
+    let e : ◌≡◌ {A = List ℕ} (k ∷ ns) (p.0 ∷ p.1) = sym (append-nil (k ∷ ns)) ∙ p.2 in
+    let ek : p.0 ≡ k = cc e in
+    let en : p.1 ≡ ns = cc e in
     record {
-      digits = start.numbers;
-      is = subst (λ x. InputLine x (numbers_of l) w) ek (subst (λ x. InputLine p.0 x w) en p.3);
-      only = λ k' ns h.
-          let o = all.only (k' ∷ ns) (input_to k' ns w h) ∙ p.2 in
-          let ok : k' ≡ p.0 = cc o in
-          let on : ns ≡ p.1 = cc o in
+      is = subst (λ x. InputLine x ns w) ek (subst (λ x. InputLine p.0 x w) en p.3);
+      only = λ j ms h.
+          let o = all.only (j ∷ ms) (input_to j ms w h) ∙ p.2 in
+          let ok : j ≡ p.0 = cc o in
+          let on : ms ≡ p.1 = cc o in
           (ok ∙ ek, on ∙ en);
     }
+
+pub input_read : (w : List ℕ) (rest : List ℕ) (l : Line) → StartRead kinds w (kind_of l) (parts_of l) rest → Done (Writes feed) rest [] → ReadsInput w l
+input_read w rest l start end =
+    let r = numbers_read w _ rest (kind_of l) (numbers_of l) start.split start.reached end in
+    record { digits = start.numbers; is = r.is; only = r.only }
 
 head_same : (x y : ℕ) (xs ys : List ℕ) → ◌≡◌ {A = List ℕ} (x ∷ xs) (y ∷ ys) → x ≡ y
 head_same x y xs ys e = cc e

@@ -14,6 +14,11 @@ pub record ReadsInput (w : List ℕ) (l : Line) : Type 0 where
   pub is : InputLine (kind_of l) (numbers_of l) w
   pub only : (k : ℕ) (ns : List ℕ) → InputLine k ns w → (k ≡ kind_of l) × (ns ≡ numbers_of l)
 
+-- w is the writing of kind k with the numbers ns, and of no others
+pub record ReadsNumbers (w : List ℕ) (k : ℕ) (ns : List ℕ) : Type 0 where
+  pub is : InputLine k ns w
+  pub only : (j : ℕ) (ms : List ℕ) → InputLine j ms w → (j ≡ k) × (ms ≡ ns)
+
 abbrev pub reply_of : Filled → ℕ
 reply_of f = value 10 f.reply.now
 

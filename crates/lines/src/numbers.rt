@@ -36,12 +36,20 @@ pub fn all_below<N: Number>(numbers: &[N], limit: u64) -> bool
     numbers.iter().all(|n| n.value() < limit)
 }
 
+// Appends a blank and a number.
+#[tactic(auto, using(crate::proofs::Made::one_before))]
+fn push_field(text: &mut Text, n: u64)
+    ensures { text_of text.new ≡ cut (text_of text.old ++ (32 ∷ decimal n)) }
+{
+    text.push(b' ');
+    text.push_number(n);
+}
+
 // Appends each number after a blank.
 pub fn push_numbers<N: Number>(text: &mut Text, numbers: &[N])
     ensures { text_of text.new ≡ cut (text_of text.old ++ flat_map (λ n. 32 ∷ decimal (N.value n)) numbers.now) }
 {
     for n in numbers {
-        text.push(b' ');
-        text.push_number(n.value());
+        push_field(text, n.value());
     }
 }

@@ -1,10 +1,10 @@
 // Reading input lines and filled lines.
 ghost use Rattle.std.specs.Prelude.{◌≡◌, ℕ, ◌-◌, ◌≤◌, min, List, length, MatchResult};
 ghost use Rattle.grammar.specs.Kinds.{kinds_of, kinds, filled_kinds};
-ghost use Rattle.grammar.specs.Grammar.{Piece, Delim, StartRead, Stuck, Lines, feed, answer};
+ghost use Rattle.grammar.specs.Grammar.{Piece, Delim, Writes, StartRead, AnswerRead, Stuck, Lines, feed, answer};
 ghost use Rattle.parts.specs.Parts.{kind_of, parts_of};
 ghost use Rattle.lines.specs.Lines.{IsInput, IsFilled, LongestStart};
-ghost use Rattle.lines.specs.Reads.{ReadsInput, ReadsFilled};
+ghost use Rattle.lines.specs.Reads.{ReadsInput, ReadsNumbers, ReadsFilled};
 
 use grammar::{Sort, read_answer, read_feed, read_start};
 use parts::{Filled, Line, line_of};
@@ -53,16 +53,39 @@ pub fn read_input<'a>(line: &'a [u8]) -> Result<Line<'a>, Faulty>
     scan_input(line).map_err(|left| Faulty::of(line, left))
 }
 
-fn scan_filled<'a>(line: &'a [u8]) -> Result<Filled<'a>, usize>
-    ensures { MatchResult result (λ f. ReadsFilled line.now f) (λ left. Stuck (Lines filled_kinds answer) line.now left) }
+// The kind and the numbers of an input line, in `out`.
+fn scan_numbers<'n>(line: &[u8], out: &'n mut [u32; 7]) -> Result<(u8, &'n [u32]), usize>
+    ensures { MatchResult result (λ p. ReadsNumbers line.now p.0 p.1.now) (λ left. Stuck (Lines kinds feed) line.now left) }
 {
-    let (line, end) = line_start(line, Sort::Filled)?;
+    let head = grammar::read_numbers(line, Sort::Input, out)?;
+    read_feed(head.rest)?;
+    Ok((head.kind, &out[..head.fields]))
+}
+
+// Reads the kind and the numbers of an input line: `out` is their place.
+pub fn read_numbers<'n>(line: &[u8], out: &'n mut [u32; 7]) -> Result<(u8, &'n [u32]), Faulty>
+    ensures { MatchResult result (λ p. ReadsNumbers line.now p.0 p.1.now) (λ f. LongestStart IsInput line.now f.start × (f.start ≤ 66)) }
+{
+    scan_numbers(line, out).map_err(|left| Faulty::of(line, left))
+}
+
+// A line that was read, with the answer that follows its fields.
+fn with_answer<'a>(line: Line<'a>, end: &'a [u8]) -> Result<Filled<'a>, usize>
+    ensures { MatchResult result (λ f. (f.line ≡ line.entry) × AnswerRead end.now f.reply.now f.result.now) (λ left. Stuck (Writes answer) end.now left) }
+{
     let (reply, result) = read_answer(end)?;
     Ok(Filled {
         line,
         reply,
         result,
     })
+}
+
+fn scan_filled<'a>(line: &'a [u8]) -> Result<Filled<'a>, usize>
+    ensures { MatchResult result (λ f. ReadsFilled line.now f) (λ left. Stuck (Lines filled_kinds answer) line.now left) }
+{
+    let (read, end) = line_start(line, Sort::Filled)?;
+    with_answer(read, end)
 }
 
 // Reads a filled line.

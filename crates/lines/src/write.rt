@@ -9,37 +9,36 @@ ghost use Rattle.lines.specs.Texts.{text_of, cut, WrittenAs};
 
 use super::numbers::{all_below, push_numbers};
 use super::text::Text;
+use draws::Reply;
 use grammar::{Sort, fields_of, kinds_of, number};
 use parts::{Line, fields_into};
 
 // A number of an archive line has at most 8 digits.
 const LIMIT: u64 = 100_000_000;
 
-// What a filled line has behind the bytes of its input line.
-#[derive(Clone, Copy, PartialEq, Eq, Debug)]
-pub struct Answer {
-    pub reply: u32,
-    pub result: u32,
+// The reply to a faulty input line, by the length of its longest start that begins a line.
+fn faulty_reply(length: u32) -> Reply
+    ensures number { result.number ≡ 2 }
+    ensures length { result.result ≡ length }
+{
+    Reply {
+        number: 2,
+        result: length,
+    }
 }
 
-impl Answer {
-    // That of a faulty input line, by the length of its longest start that begins a line.
-    fn faulty(length: u32) -> Answer
-        ensures reply { result.reply ≡ 2 }
-        ensures length { result.result ≡ length }
-    {
-        Answer {
-            reply: 2,
-            result: length,
-        }
-    }
+// Whether each number has at most 8 digits.
+fn are_short(numbers: &[u32]) -> bool
+    ensures { Decides result (AllByRecursion (Short 8) numbers.now) }
+{
+    all_below(numbers, LIMIT)
+}
 
-    // Whether reply and result have at most 8 digits.
-    fn is_short(self) -> bool
-        ensures { Decides result (Short 8 self.reply × Short 8 self.result) }
-    {
-        u64::from(self.reply) < LIMIT && u64::from(self.result) < LIMIT
-    }
+// Whether number and result have at most 8 digits.
+fn is_short(reply: Reply) -> bool
+    ensures { Decides result (Short 8 reply.number × Short 8 reply.result) }
+{
+    are_short(&[reply.number, reply.result])
 }
 
 // Whether lines of the sort have the kind, with so many fields.
@@ -66,14 +65,14 @@ fn push_fields(text: &mut Text, fields: &[&[u8]])
     }
 }
 
-// Appends ` : `, reply, blank, result and line feed.
-fn push_answer(text: &mut Text, answer: Answer)
-    ensures { text_of text.new ≡ cut (text_of text.old ++ answer_text answer.reply answer.result) }
+// Appends ` : `, the reply's number, blank, its result and line feed.
+fn push_answer(text: &mut Text, reply: Reply)
+    ensures { text_of text.new ≡ cut (text_of text.old ++ answer_text reply.number reply.result) }
 {
     text.push_all(b" : ");
-    text.push_number(u64::from(answer.reply));
+    text.push_number(u64::from(reply.number));
     text.push(b' ');
-    text.push_number(u64::from(answer.result));
+    text.push_number(u64::from(reply.result));
     text.push(b'\n');
 }
 
@@ -87,20 +86,20 @@ fn before_feed(line: &[u8]) -> &[u8]
     }
 }
 
-// Makes the text `start` and then the answer.
-fn fill_after(text: &mut Text, start: &[u8], answer: Answer)
-    ensures { text_of text.new ≡ cut (start.now ++ answer_text answer.reply answer.result) }
+// Makes the text `start` and then the reply.
+fn fill_after(text: &mut Text, start: &[u8], reply: Reply)
+    ensures { text_of text.new ≡ cut (start.now ++ answer_text reply.number reply.result) }
 {
     text.clear();
     text.push_all(start);
-    push_answer(text, answer);
+    push_answer(text, reply);
 }
 
-// Makes the text the filled line of an input line: its bytes up to the line feed, and then the answer.
-pub fn fill(text: &mut Text, line: &[u8], answer: Answer)
-    ensures { text_of text.new ≡ cut (before_feed line.now ++ answer_text answer.reply answer.result) }
+// Makes the text the filled line of an input line: its bytes up to the line feed, and then the reply.
+pub fn fill(text: &mut Text, line: &[u8], reply: Reply)
+    ensures { text_of text.new ≡ cut (before_feed line.now ++ answer_text reply.number reply.result) }
 {
-    fill_after(text, before_feed(line), answer);
+    fill_after(text, before_feed(line), reply);
 }
 
 // The kind of a faulty input line.
@@ -114,7 +113,7 @@ fn faulty_kind() -> &'static [u8]
 pub fn fill_faulty(text: &mut Text, length: u32)
     ensures { text_of text.new ≡ cut (filled_line 99 [] 2 length) }
 {
-    fill_after(text, faulty_kind(), Answer::faulty(length));
+    fill_after(text, faulty_kind(), faulty_reply(length));
 }
 
 // The kind and its numbers.
@@ -131,7 +130,7 @@ fn start_text(kind: u8, numbers: &[u32]) -> Text
 pub fn write_input_numbers(kind: u8, fields: &[u32]) -> Option<Text>
     ensures { WrittenAs result (InputLine kind fields.now) }
 {
-    if !is_known(Sort::Input, kind, fields.len()) || !all_below(fields, LIMIT) {
+    if !is_known(Sort::Input, kind, fields.len()) || !are_short(fields) {
         return None;
     }
     let mut text = start_text(kind, fields);
@@ -140,17 +139,14 @@ pub fn write_input_numbers(kind: u8, fields: &[u32]) -> Option<Text>
 }
 
 // The filled line of a kind with these numbers; none where there is no such line.
-pub fn write_numbers(kind: u8, fields: &[u32], answer: Answer) -> Option<Text>
-    ensures { WrittenAs result (FilledLine kind fields.now answer.reply answer.result) }
+pub fn write_numbers(kind: u8, fields: &[u32], reply: Reply) -> Option<Text>
+    ensures { WrittenAs result (FilledLine kind fields.now reply.number reply.result) }
 {
-    if !is_known(Sort::Filled, kind, fields.len())
-        || !all_below(fields, LIMIT)
-        || !answer.is_short()
-    {
+    if !is_known(Sort::Filled, kind, fields.len()) || !are_short(fields) || !is_short(reply) {
         return None;
     }
     let mut text = start_text(kind, fields);
-    push_answer(&mut text, answer);
+    push_answer(&mut text, reply);
     Some(text)
 }
 
@@ -158,28 +154,28 @@ pub fn write_numbers(kind: u8, fields: &[u32], answer: Answer) -> Option<Text>
 pub fn write_faulty(length: u32) -> Option<Text>
     ensures { WrittenAs result (FilledLine 99 [] 2 length) }
 {
-    write_numbers(99, &[], Answer::faulty(length))
+    write_numbers(99, &[], faulty_reply(length))
 }
 
 // The filled line of a known kind with these fields, as they stand.
-fn filled_text(kind: u8, fields: &[&[u8]], answer: Answer) -> Option<Text>
+fn filled_text(kind: u8, fields: &[&[u8]], reply: Reply) -> Option<Text>
     requires { arity filled_kinds kind ≡ Some (length (map (λ f. f.now) fields.now)) }
-    ensures { WrittenAs result (FieldsFilled kind (map (λ f. f.now) fields.now) answer.reply answer.result) }
+    ensures { WrittenAs result (FieldsFilled kind (map (λ f. f.now) fields.now) reply.number reply.result) }
 {
-    if !are_numbers(fields) || !answer.is_short() {
+    if !are_numbers(fields) || !is_short(reply) {
         return None;
     }
     let mut text = Text::new();
     text.push_number(u64::from(kind));
     push_fields(&mut text, fields);
-    push_answer(&mut text, answer);
+    push_answer(&mut text, reply);
     Some(text)
 }
 
 // The filled line of a read line, with its fields as they stand; none where one is no number of a line.
-pub fn write_filled(line: &Line<'_>, answer: Answer) -> Option<Text>
-    ensures { WrittenAs result (FilledOf line.now answer.reply answer.result) }
+pub fn write_filled(line: &Line<'_>, reply: Reply) -> Option<Text>
+    ensures { WrittenAs result (FilledOf line.now reply.number reply.result) }
 {
     let mut out: [&[u8]; 7] = [&[]; 7];
-    filled_text(line.kind(), fields_into(line, &mut out), answer)
+    filled_text(line.kind(), fields_into(line, &mut out), reply)
 }

@@ -1,7 +1,8 @@
 // What the benchmark of `lines` calls from outside.
 #![tactic(auto)]
 
-use lines::{Answer, Text, fill, fill_faulty, read_input};
+use draws::Reply;
+use lines::{Text, fill, fill_faulty, read_input};
 
 // A sum over the bytes that depends on their places.
 fn checksum(bytes: &[u8]) -> u64 {
@@ -24,8 +25,8 @@ fn is_answered(text: &mut Text, line: &[u8], res: u32) -> bool {
             fill(
                 text,
                 line,
-                Answer {
-                    reply: 0,
+                Reply {
+                    number: 0,
                     result: res,
                 },
             );

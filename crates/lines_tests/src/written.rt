@@ -1,6 +1,7 @@
 // Lines read and written.
+use draws::Reply;
 use lines::{
-    Answer, Line, Row, Text, fill, fill_faulty, find, number, read_filled, read_input,
+    Line, Row, Text, fill, fill_faulty, find, number, read_filled, read_input, read_numbers,
     write_faulty, write_filled, write_input_numbers, write_numbers,
 };
 use statements::{Sort, StatementLine, read_statement, rewrite, write_statement};
@@ -40,10 +41,10 @@ const FILLED: [&[u8]; 6] = [
     b"13 99999999 99999999 99999999 99999999 99999999 99999999 99999999 : 99999999 99999999\n",
 ];
 
-fn answer(reply: u32, number: u32) -> Answer {
-    Answer {
-        reply,
-        result: number,
+fn answer(number: u32, res: u32) -> Reply {
+    Reply {
+        number,
+        result: res,
     }
 }
 
@@ -93,6 +94,26 @@ fn trade(rt: HostRuntime) -> Result<(), Fail> {
     assert!(rt; numbers.as_slice() == [1, 2, 3, 4, 5, 6, 1200].as_slice());
     let text = write_filled(&line, answer(0, 9)).ok_or("no text")?;
     assert!(rt; text.as_bytes() == b"13 1 2 3 4 5 6 1200 : 0 9\n".as_slice());
+    Ok(())
+}
+
+#[test]
+fn trade_at_once(rt: HostRuntime) -> Result<(), Fail> {
+    let mut out = [9; 7];
+    let Ok((kind, numbers)) = read_numbers(b"13 1 2 3 4 5 6 1200\n", &mut out) else {
+        return Err(Fail::new("no line"));
+    };
+    assert_eq!(rt; kind, 13);
+    assert!(rt; numbers == [1, 2, 3, 4, 5, 6, 1200].as_slice());
+    let Ok((kind, numbers)) = read_numbers(b"31\n", &mut out) else {
+        return Err(Fail::new("no line"));
+    };
+    assert_eq!(rt; kind, 31);
+    assert!(rt; numbers.is_empty());
+    let Err(fault) = read_numbers(b"13 1 2 3 4 5 6 01200\n", &mut out) else {
+        return Err(Fail::new("a faulty input line was read"));
+    };
+    assert_eq!(rt; fault.start, 16);
     Ok(())
 }
 

@@ -1,9 +1,9 @@
 -- Lists that are written up to a capacity.
-use Rattle.std.proofs.Common.{◌≡◌, ℕ, ◌+◌, ◌<◌, ◌≤◌, Bool, true, false, List, [], ◌∷◌, ◌++◌, map, length, get_or, take, Decides, sym, refl, ap, ◌∙◌, subst, ⊎_elim, append_assoc, append-nil, suc-add, zero-add, arith}
+use Rattle.std.proofs.Common.{◌≡◌, ℕ, ◌+◌, ◌<◌, ◌≤◌, Bool, List, [], ◌∷◌, ◌++◌, map, length, get_or, take, Decides, sym, refl, ap, ◌∙◌, ⊎_elim, append_assoc, append-nil, suc-add, zero-add, arith}
 use Rattle.std.specs.List.{flat_map, AllByRecursion}
 use Rattle.std.proofs.lemmas.List.{flat_map_more, map_push, take_all, take-take, take-append-le, take_more, length-take-le}
 use Rattle.std.proofs.lemmas.Bool.{cases_lt}
-use Rattle.std.proofs.ByRecursion.{All-get_or, All-map}
+use Rattle.std.proofs.ByRecursion.{All-map}
 use Rattle.grammar.proofs.Maps.{all_of_map}
 
 pub take_past : {X : Type 0} (m : ℕ) (xs ys : List X) → take (length xs + m) (xs ++ ys) ≡ xs ++ take m ys
@@ -35,28 +35,15 @@ cut_none n a b xs e f = f ∙ ap (λ t. take n (t ++ xs)) e
 pub cut_all : {X : Type 0} (n : ℕ) (a xs : List X) → length xs ≤ n → a ≡ take n xs → a ≡ xs
 cut_all n a xs l e = e ∙ take_all n xs l
 
--- a loop that appends one element after another
-pub push_next : {X : Type 0} (n : ℕ) (a b old xs : List X) (i : ℕ) (d : X) → i < length xs → a ≡ take n (old ++ take i xs) → b ≡ take n (a ++ (get_or xs i d ∷ [])) → b ≡ take n (old ++ take (i + 1) xs)
-push_next n a b old xs i d l e f = cut_more n a b old (take i xs) (get_or xs i d ∷ []) e f ∙ ap (λ t. take n (old ++ t)) (sym (take_more xs i d l))
-
--- a loop that appends one field after another
-pub field_next : {X : Type 0} (n : ℕ) (f : X → List ℕ) (old a p q : List ℕ) (xs : List X) (i : ℕ) (d : X) → i < length xs → a ≡ take n (old ++ flat_map (λ x. 32 ∷ f x) (take i xs)) → p ≡ take n (a ++ (32 ∷ [])) → q ≡ take n (p ++ f (get_or xs i d)) → q ≡ take n (old ++ flat_map (λ x. 32 ∷ f x) (take (i + 1) xs))
-field_next n f old a p q xs i d l e ep eq =
-    let J = flat_map (λ x. 32 ∷ f x) (take i xs) in
-    let t : (J ++ (32 ∷ [])) ++ f (get_or xs i d) ≡ flat_map (λ x. 32 ∷ f x) (take (i + 1) xs) =
-    append_assoc J (32 ∷ []) (f (get_or xs i d)) ∙ flat_map_more (λ x. 32 ∷ f x) [] (take i xs) (get_or xs i d) ∙ ap (flat_map (λ x. 32 ∷ f x)) (sym (take_more xs i d l)) in
-    cut_more n p q old (J ++ (32 ∷ [])) (f (get_or xs i d)) (cut_more n a p old J (32 ∷ []) e ep) eq ∙ ap (λ u. take n (old ++ u)) t
+-- a loop that appends the writing of one element after another
+pub part_next : {X : Type 0} (n : ℕ) (f : X → List ℕ) (old a b : List ℕ) (xs : List X) (i : ℕ) (d : X) → i < length xs → a ≡ take n (old ++ flat_map f (take i xs)) → b ≡ take n (a ++ f (get_or xs i d)) → b ≡ take n (old ++ flat_map f (take (i + 1) xs))
+part_next n f old a b xs i d l e eb =
+    let t : flat_map f (take i xs) ++ f (get_or xs i d) ≡ flat_map f (take (i + 1) xs) = flat_map_more f [] (take i xs) (get_or xs i d) ∙ ap (flat_map f) (sym (take_more xs i d l)) in
+    cut_more n a b old (flat_map f (take i xs)) (f (get_or xs i d)) e eb ∙ ap (λ u. take n (old ++ u)) t
 
 pub joined_map : {X Y Z : Type 0} (f : Y → List Z) (g : X → Y) (xs : List X) → flat_map f (map g xs) ≡ flat_map (λ x. f (g x)) xs
 joined_map f g [] = refl
 joined_map f g (x ∷ xs) = ap (λ l. f (g x) ++ l) (joined_map f g xs)
-
--- a loop that looks for an element without the property
-pub not_all : {X : Type 0} (P : X → Type 0) (xs : List X) (i : ℕ) (d : X) → i < length xs → (P (get_or xs i d) → ⊥) → Decides false (AllByRecursion P xs)
-not_all P xs i d l never = (λ e. absurd (let z : ◌≡◌ {A = ℕ} 0 1 = cc e in omega arith), λ h. absurd (never (All-get_or P xs i d l h)))
-
-pub all_seen : {X : Type 0} (P : X → Type 0) (xs : List X) (i : ℕ) → length xs ≤ i → AllByRecursion P (take i xs) → Decides true (AllByRecursion P xs)
-all_seen P xs i l h = (λ e. subst (AllByRecursion P) (take_all i xs l) h, λ g. refl)
 
 pub decides_map : {X Y : Type 0} (P : Y → Type 0) (f : X → Y) (xs : List X) (r : Bool) → Decides r (AllByRecursion (λ x. P (f x)) xs) → Decides r (AllByRecursion P (map f xs))
 decides_map P f xs r d = (λ e. All-map P f xs (d.0 e), λ h. d.1 (all_of_map P f xs h))

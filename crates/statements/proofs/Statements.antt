@@ -1,10 +1,10 @@
 -- Statement lines: how long they are, read and written.
-use Rattle.std.proofs.Common.{◌≡◌, ℕ, suc, ◌-◌, ◌*◌, ◌≤◌, min, List, [], ◌∷◌, ◌++◌, length, decimal, Result, Ok, MatchResult, IsErrAnd, sym, refl, ap, ◌∙◌, subst, append-nil, arith}
+use Rattle.std.proofs.Common.{◌≡◌, ℕ, suc, ◌-◌, ◌*◌, ◌≤◌, min, List, [], ◌∷◌, ◌++◌, length, get_or, take, drop, decimal, Result, Ok, MatchResult, IsErrAnd, sym, refl, ap, ◌∙◌, subst, append-nil, arith}
 use Rattle.std.specs.List.{AllByRecursion}
-use Rattle.std.proofs.lemmas.List.{length-append}
+use Rattle.std.proofs.lemmas.List.{length-append, take_all}
 use Rattle.grammar.specs.Kinds.{Short}
-use Rattle.lines.specs.Lines.{fields_text, StatementText, IsStatement, LongestStart}
-use Rattle.grammar.specs.Grammar.{ten_numbers, Writes, shape, feed, first, Stuck, Done}
+use Rattle.lines.specs.Lines.{fields_text, statement_line, StatementText, IsStatement, LongestStart}
+use Rattle.grammar.specs.Grammar.{ten_numbers, Writes, shape, feed, Stuck, Done}
 use Rattle.lines.specs.declared.read.Faulty.{Faulty}
 use Rattle.statements.specs.declared.statement.StatementLine.{StatementLine}
 use Rattle.statements.specs.Statements.{values_of, ReadsStatement}
@@ -69,8 +69,8 @@ statement_read w ns s h e = record {
   only = λ ms t. h.only ms (statement_to ms w t) ∙ sym e;
 }
 
-pub statement_made : (n : ℕ) (ns all new t u v : List ℕ) → n ∷ ns ≡ all → length all ≡ 10 → Short 16 n → AllByRecursion (Short 16) ns → new ≡ [] → t ≡ cut (new ++ decimal n) → u ≡ cut (t ++ fields_text ns) → v ≡ cut (u ++ (10 ∷ [])) → StatementText all v
-statement_made n ns all new t u v same ten first short e f g h =
-    let l = statement_length (n ∷ ns) (decimal n ++ (fields_text ns ++ (10 ∷ []))) (record { ten = ap length same ∙ ten; short = (first, short); is = refl }) in
-    subst (λ xs. StatementText xs v) same
-    (record { ten = ap length same ∙ ten; short = (first, short); is = ended n u v (fields_text ns) (10 ∷ []) l (started n new t u (fields_text ns) e f g) h })
+pub statement_made : (all new t u v : List ℕ) → length all ≡ 10 → AllByRecursion (Short 16) all → new ≡ [] → t ≡ cut (new ++ decimal (get_or all 0 0)) → u ≡ cut (t ++ fields_text (take 9 (drop 1 all))) → v ≡ cut (u ++ (10 ∷ [])) → StatementText all v
+statement_made [] new t u v ten short e f g h = absurd (omega arith)
+statement_made (n ∷ ns) new t u v ten short e f g h =
+    let l = statement_length (n ∷ ns) (statement_line (n ∷ ns)) (record { ten = ten; short = short; is = refl }) in
+    record { ten = ten; short = short; is = ended n u v (fields_text ns) (10 ∷ []) l (started n new t u (fields_text ns) e f (g ∙ ap (λ l. cut (t ++ fields_text l)) (take_all 9 ns (omega arith)))) h }

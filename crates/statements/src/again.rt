@@ -3,8 +3,9 @@ ghost use Rattle.std.specs.Prelude.{◌≤◌, MatchResult};
 ghost use Rattle.lines.specs.Lines.{IsInput, IsFilled, LongestStart};
 ghost use Rattle.statements.specs.Rewrites.{IsLine, longest_line, Rewrites};
 
+use draws::Reply;
 use grammar::{Sort, number};
-use lines::{Answer, Faulty, Text, read_filled, read_input, write_input_numbers, write_numbers};
+use lines::{Faulty, Text, read_filled, read_input, write_input_numbers, write_numbers};
 use parts::Numbers;
 
 // What a line was read as, and its text written from that. The numbers of a filled line end with reply and result.
@@ -46,7 +47,10 @@ fn rewrite_filled(line: &[u8]) -> Result<Rewritten, Faulty>
     ) else {
         unreachable()
     };
-    let answer = Answer { reply, result };
+    let answer = Reply {
+        number: reply,
+        result,
+    };
     let Some(text) = write_numbers(kind, fields.as_slice(), answer) else {
         unreachable()
     };

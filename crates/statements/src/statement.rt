@@ -1,7 +1,9 @@
 // Statement lines.
-ghost use Rattle.std.specs.Prelude.{◌≡◌, ◌≤◌, MatchResult};
+ghost use Rattle.std.specs.Prelude.{◌≡◌, ◌-◌, ◌≤◌, min, length, MatchResult};
+ghost use Rattle.std.specs.List.{AllByRecursion};
+ghost use Rattle.grammar.specs.Kinds.{Short};
 ghost use Rattle.lines.specs.Lines.{StatementText, IsStatement, LongestStart};
-ghost use Rattle.lines.specs.Texts.{WrittenAs};
+ghost use Rattle.lines.specs.Texts.{text_of, WrittenAs};
 ghost use Rattle.statements.specs.Statements.{values_of, ReadsStatement};
 
 use grammar::read_ten;
@@ -68,8 +70,24 @@ impl From<[u64; 10]> for StatementLine {
 pub fn read_statement(line: &[u8]) -> Result<StatementLine, Faulty>
     ensures { MatchResult result (λ s. ReadsStatement line.now s) (λ f. LongestStart IsStatement line.now f.start × (f.start ≤ 170)) }
 {
-    let numbers = read_ten(line).map_err(|left| Faulty::of(line, left))?;
+    let numbers = read_ten(line).map_err(
+        |left|
+            ensures { result.start ≡ min (length line.entry.now - left) 170 }
+        { Faulty::of(line, left) },
+    )?;
     Ok(StatementLine::from(numbers))
+}
+
+// The text of ten numbers that have at most 16 digits.
+fn short_text(numbers: &[u64; 10]) -> Text
+    requires { AllByRecursion (Short 16) numbers.now }
+    ensures { StatementText numbers.now (text_of result) }
+{
+    let mut text = Text::new();
+    text.push_number(numbers[0]);
+    push_numbers(&mut text, &numbers[1..]);
+    text.push(b'\n');
+    text
 }
 
 // The text of a statement line; none where a number has more than 16 digits.
@@ -80,9 +98,5 @@ pub fn write_statement(line: &StatementLine) -> Option<Text>
     if !all_below(&numbers, LIMIT) {
         return None;
     }
-    let mut text = Text::new();
-    text.push_number(numbers[0]);
-    push_numbers(&mut text, &numbers[1..]);
-    text.push(b'\n');
-    Some(text)
+    Some(short_text(&numbers))
 }

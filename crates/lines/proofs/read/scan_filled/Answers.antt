@@ -1,19 +1,20 @@
-use Rattle.std.proofs.lemmas.Result.{err_from_is_err_and}
-use Rattle.grammar.specs.Grammar.{answer}
+use Rattle.std.proofs.Common.{sym, subst}
+use Rattle.std.proofs.lemmas.Result.{err_from_is_err_and, MatchResult-weaker}
+use Rattle.grammar.specs.Kinds.{filled_kinds}
+use Rattle.grammar.specs.Grammar.{StartRead, answer}
 use Rattle.grammar.proofs.Steps.{stuck_after, answer_delim}
+use Rattle.parts.specs.Parts.{kind_of, parts_of}
 use Rattle.lines.proofs.Tops.{filled_read}
 use Rattle.lines.proofs.read.scan_filled.Goals as goal
 
-pub returns-in_err-line : goal.returns-in_err-line
-returns-in_err-line c =
+pub returns-in_err-read : goal.returns-in_err-read
+returns-in_err-read c =
     let p = err_from_is_err_and c.from_residual.result c.from_residual.ensures.1 in
-    rw (p.1, p.2) (c.in_err-line.ensures answer answer_delim)
-
-pub returns-in_err-reply : goal.returns-in_err-reply
-returns-in_err-reply c =
-    let p = err_from_is_err_and c.from_residual-in_err-reply.result c.from_residual-in_err-reply.ensures.1 in
-    let start = c.in_ok-line.ensures in
-    rw (p.1, p.2, start.split) (stuck_after _ _ _ _ _ _ (start.reached answer answer_delim) c.in_err-reply.ensures)
+    rw (p.1, p.2) (c.in_err-read.ensures answer answer_delim)
 
 pub returns : goal.returns
-returns c = filled_read _ _ _ c.in_ok-line.ensures c.in_ok-reply.ensures
+returns c =
+    let start = c.in_ok-read.ensures in
+    MatchResult-weaker c.with_answer.result c.with_answer.ensures
+    (λ f h. filled_read _ _ f (subst (λ l. StartRead filled_kinds c.args.line.now (kind_of l) (parts_of l) c.in_ok-read.end.now) (sym h.0) start) h.1)
+    (λ left st. rw start.split (stuck_after _ _ _ _ _ left (start.reached answer answer_delim) st))

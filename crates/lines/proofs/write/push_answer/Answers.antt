@@ -6,8 +6,8 @@ use Rattle.lines.proofs.write.push_answer.Goals as goal
 
 pub returns : goal.returns
 returns c =
-    let a = decimal c.args.answer.reply in
-    let b = decimal c.args.answer.result in
+    let a = decimal c.args.reply.number in
+    let b = decimal c.args.reply.result in
     let old = text_of c.args.text.now in
     let mark = 32 ∷ 58 ∷ 32 ∷ [] in
     let first = rw c.from.ensures at c.push_number.ensures in
@@ -16,5 +16,5 @@ returns c =
     let blank = cut_more 170 _ _ old (mark ++ a) (32 ∷ []) reply c.push.ensures in
     let result = cut_more 170 _ _ old ((mark ++ a) ++ (32 ∷ [])) b blank second in
     let all = cut_more 170 _ _ old (((mark ++ a) ++ (32 ∷ [])) ++ b) (10 ∷ []) result c.push-2.ensures in
-    let same : (((mark ++ a) ++ (32 ∷ [])) ++ b) ++ (10 ∷ []) ≡ answer_text c.args.answer.reply c.args.answer.result = simp append_assoc in
+    let same : (((mark ++ a) ++ (32 ∷ [])) ++ b) ++ (10 ∷ []) ≡ answer_text c.args.reply.number c.args.reply.result = simp append_assoc in
     all ∙ ap (λ t. cut (old ++ t)) same

@@ -3,7 +3,8 @@ use Rattle.std.specs.List.{flat_map}
 use Rattle.std.proofs.lemmas.List.{take_all}
 use Rattle.lines.specs.Texts.{text_of, cut}
 use Rattle.grammar.specs.Grammar.{blanked}
-use Rattle.parts.proofs.Cuts.{cut_same, field_next, joined_map}
+use Rattle.parts.proofs.Cuts.{cut_same, part_next, joined_map}
+use Rattle.lines.proofs.Made.{one_before}
 use Rattle.lines.proofs.write.push_fields.Goals as goal
 
 pub loop-f-init : goal.loop-f-init
@@ -12,7 +13,7 @@ loop-f-init c = cut_same 170 _
 pub loop-f-preserved : goal.loop-f-preserved
 loop-f-preserved c =
     let d : Bor _ = record { ref_ptr = (0, 0); now = [] } in
-    field_next 170 (λ f. f.now) _ _ _ _ c.args.fields.now c.loop-f.f-index d (omega arith) c.loop-f.invariant c.push.ensures c.push_all.ensures
+    part_next 170 (λ f. 32 ∷ f.now) _ _ _ c.args.fields.now c.loop-f.f-index d (omega arith) c.loop-f.invariant (one_before 32 _ _ _ _ c.push.ensures c.push_all.ensures)
 
 pub returns : goal.returns
 returns c =

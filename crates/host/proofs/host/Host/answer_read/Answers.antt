@@ -7,10 +7,9 @@ use Rattle.host.proofs.host.Host.answer_read.Goals as goal
 
 pub returns : goal.returns
 returns c =
-    let n = c.in-Some.ensures.1 in
     fills_of
-    (shown c.args.self.now) c.args.read.now c.args.line.now c.kind-kind.result c.as_slice.result.now
-    c.reply_of-reply.result (text_of c.fill.new.text) c.statements_after.result (shown c.take-answer.new.self)
-    c.requires c.kind-kind.ensures (c.as_slice.ensures ∙ n)
-    (c.reply_of-reply.ensures ∙ c.take-answer.ensures.reply) (subst Brief (sym c.reply_of-reply.ensures) c.take-answer.ensures.brief) c.take-answer.ensures.after
-    c.fill.ensures (c.statements_after.ensures ∙ ap (statements_after c.kind-kind.result) (sym c.reply_of-reply.ensures))
+    (shown c.args.self.now) c.args.kind c.args.numbers.now c.args.line.now
+    c.reply_of.result (text_of c.fill.new.text) c.statements_after.result (shown c.take-answer.new.self)
+    c.requires
+    (c.reply_of.ensures ∙ c.take-answer.ensures.reply) (subst Brief (sym c.reply_of.ensures) c.take-answer.ensures.brief) c.take-answer.ensures.after
+    c.fill.ensures (c.statements_after.ensures ∙ ap (statements_after c.args.kind) (sym c.reply_of.ensures))

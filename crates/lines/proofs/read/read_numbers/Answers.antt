@@ -1,0 +1,13 @@
+use Rattle.std.proofs.Common.{arith, rules}
+use Rattle.grammar.specs.Kinds.{kinds}
+use Rattle.grammar.specs.Grammar.{Stuck, Lines, feed}
+use Rattle.lines.specs.Lines.{IsInput}
+use Rattle.lines.specs.Reads.{ReadsNumbers}
+use Rattle.lines.proofs.Tops.{told, input_faulty}
+use Rattle.lines.proofs.Lengths.{input_start}
+use Rattle.lines.proofs.read.read_numbers.Goals as goal
+
+pub returns : goal.returns
+returns c =
+    let w = c.args.line.now in
+    told IsInput 66 w c.scan_numbers.result c.map_err.result (λ p. ReadsNumbers w p.0 p.1.now) (Stuck (Lines kinds feed) w) _ c.scan_numbers.ensures c.map_err.ensures.cases (input_faulty w) (input_start w) (omega arith) (λ e f g. search rules)

@@ -1,0 +1,21 @@
+use Rattle.std.proofs.lemmas.Result.{err_from_is_err_and}
+use Rattle.grammar.specs.Grammar.{feed}
+use Rattle.grammar.proofs.Steps.{stuck_after, not_digit_10}
+use Rattle.lines.proofs.Tops.{numbers_read}
+use Rattle.lines.proofs.read.scan_numbers.Goals as goal
+
+pub returns-in_err-head : goal.returns-in_err-head
+returns-in_err-head c =
+    let p = err_from_is_err_and c.from_residual.result c.from_residual.ensures.1 in
+    rw (p.1, p.2) (c.in_err-head.ensures feed not_digit_10)
+
+pub returns-in_err-read_feed : goal.returns-in_err-read_feed
+returns-in_err-read_feed c =
+    let p = err_from_is_err_and c.from_residual-in_err-read_feed.result c.from_residual-in_err-read_feed.ensures.1 in
+    let start = c.in_ok-head.ensures.0 in
+    rw (p.1, p.2, start.split) (stuck_after _ _ _ _ _ _ (start.reached feed not_digit_10) c.in_err-read_feed.ensures)
+
+pub returns : goal.returns
+returns c =
+    let start = c.in_ok-head.ensures.0 in
+    numbers_read _ _ _ _ _ start.split start.reached c.in_ok-read_feed.ensures
