@@ -11,6 +11,7 @@ use register::{Call, Done, Opening, perform};
 use settlement::Line;
 
 // Reply and result of an answer.
+// Kept: neither the result nor the reply is this crate's type, so this is no From.
 pub(crate) fn reply_of(answer: Result<u32, Refusal>) -> Reply
     ensures { result ≡ replied answer }
 {

@@ -38,6 +38,7 @@ pub struct Answered {
 }
 
 // How many statement lines follow a line of that kind with that answer.
+// Kept: the kind is the line's number, as in `call_of`.
 fn statements_after(kind: u8, answer: Result<u32, Refusal>) -> usize
     ensures { result ≡ statements_after kind (replied answer) }
 {
@@ -62,7 +63,9 @@ impl Host {
         }
     }
 
-    // Opens a book: puts it in the place, with its first pass.
+    // Opens a book: puts it in the place, with its first pass. Not inlined, so that no other line's answer has the 40 KB
+    // of a new book in its frame.
+    #[inline(never)]
     fn open(&mut self, o: &Opening) -> Result<u32, Refusal>
         requires { self.old.pass ≡ None }
         ensures reply { replied result ≡ (start_step (unread_of self.old.unread) self.old.places (Open o.now)).reply }
@@ -109,6 +112,7 @@ impl Host {
     }
 
     // Takes a tape number, or makes a call.
+    // Kept: the kind is the line's number, as in `call_of`.
     fn take(&mut self, kind: u8, numbers: &[u32]) -> Result<u32, Refusal>
         ensures reply { replied result ≡ (host_step (shown self.old) kind numbers.now).reply }
         ensures brief { Brief (replied result) }
@@ -121,6 +125,7 @@ impl Host {
     }
 
     // Answers a line that was read as its kind and numbers.
+    // Kept: the kind is the line's number, as in `call_of`.
     fn answer_read(&mut self, kind: u8, numbers: &[u32], line: &[u8], text: &mut Text) -> usize
         requires { InputLine kind numbers.now line.now }
         ensures { FillsText (shown self.old) kind numbers.now (text_of text.new) result (shown self.new) }
