@@ -1,4 +1,5 @@
 // The kinds of lines.
+// Kept: codes of kinds are numbers, since a number that is no kind has an answer too.
 ghost use Rattle.std.specs.Prelude.{◌≡◌};
 ghost use Rattle.grammar.specs.Kinds.{FirstPlace, arity, kinds_of};
 
@@ -10,7 +11,6 @@ pub enum Sort {
 }
 
 // A kind of line, and how many fields it has.
-// Kept: the kind is the number that the archive's lines have, and `find` is asked for any.
 #[derive(Clone, Copy, PartialEq, Eq, Debug)]
 pub struct Row {
     pub kind: u8,

@@ -48,6 +48,7 @@ fn statements_after(kind: u8, answer: Result<u32, Refusal>) -> usize
     }
 }
 
+// Kept: fields of a read line, its kind and its numbers, as `call_of` has them.
 impl Host {
     // No book and no tape number.
     pub fn new() -> Host

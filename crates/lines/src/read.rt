@@ -20,6 +20,7 @@ pub struct Faulty {
 
 impl Faulty {
     // The fault in a line where so many bytes were left.
+    // Kept: it is made of two things, so this is no From.
     pub fn of(line: &[u8], left: usize) -> Faulty
         ensures { result.start ≡ min (length line.now - left) 170 }
     {
@@ -30,6 +31,7 @@ impl Faulty {
 }
 
 // The kind and the fields at the start of a line of a sort, and what follows them.
+// Kept: fields, a line and its sort, as `read_start` has them.
 fn line_start<'a>(line: &'a [u8], sort: Sort) -> Result<(Line<'a>, &'a [u8]), usize>
     ensures { MatchResult result (λ p. StartRead (kinds_of sort) line.now (kind_of p.0) (parts_of p.0) p.1.now) (λ left. (t : List Piece) → Delim t → Stuck (Lines (kinds_of sort) t) line.now left) }
 {

@@ -1,4 +1,6 @@
 // Writing input lines and filled lines.
+// Kept: codes of kinds are numbers, since a number that is no kind of a line is answered with none.
+// Kept: fields of a line, its kind and its numbers: a struct of them would be made at each call and opened at once.
 ghost use Rattle.std.specs.Prelude.{◌≡◌, [], ◌++◌, map, length, Some, decimal, Decides};
 ghost use Rattle.std.specs.List.{flat_map, AllByRecursion};
 ghost use Rattle.grammar.specs.Kinds.{arity, filled_kinds, kinds_of, Short, IsNumber};

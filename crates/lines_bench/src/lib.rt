@@ -6,19 +6,16 @@ use lines::{Text, fill, fill_faulty, read_input};
 
 // A sum over the bytes that depends on their places.
 fn checksum(bytes: &[u8]) -> u64 {
-    let mut sum: u64 = 0;
-    let mut place: u64 = 0;
-    for b in bytes {
-        place = place.wrapping_add(1);
-        sum = sum.wrapping_add(place.wrapping_mul(*b as u64));
-    }
-    sum
+    bytes.iter().enumerate().fold(0, |sum: u64, (at, b)| {
+        sum.wrapping_add((at as u64).wrapping_add(1).wrapping_mul(u64::from(*b)))
+    })
 }
 
 // The largest number of an archive line.
 const LARGEST: u32 = 99_999_999;
 
 // Makes the text the filled line of an input line, with result `res`, if there is such a line.
+// Kept: what C passes is a number.
 fn is_answered(text: &mut Text, line: &[u8], res: u32) -> bool {
     match read_input(line) {
         Ok(_read) => {
@@ -40,17 +37,14 @@ fn is_answered(text: &mut Text, line: &[u8], res: u32) -> bool {
 }
 
 // Reads every line of the buffer as an input line, writes it filled, and sums up what was written.
+// Kept: what C passes is a number.
 #[unsafe(no_mangle)]
 pub extern "C" fn lines_bench(buffer: &[u8], res: u32) -> u64 {
     let mut text = Text::new();
     let mut sum: u64 = 0;
-    let mut start = 0;
-    for i in 0..buffer.len() {
-        if buffer[i] == b'\n' {
-            if is_answered(&mut text, &buffer[start..i + 1], res) {
-                sum = sum.wrapping_mul(31).wrapping_add(checksum(text.as_bytes()));
-            }
-            start = i + 1;
+    for line in buffer.split_inclusive(|b| *b == b'\n') {
+        if line.ends_with(b"\n") && is_answered(&mut text, line, res) {
+            sum = sum.wrapping_mul(31).wrapping_add(checksum(text.as_bytes()));
         }
     }
     sum

@@ -13,6 +13,7 @@ use lines::{Faulty, Text, all_below, push_numbers};
 const LIMIT: u64 = 10_000_000_000_000_000;
 
 // What one account has to give and to get in one series.
+// Kept: role and method are numbers, since a line that is read may have any of 16 digits there.
 #[derive(Clone, Copy, PartialEq, Eq, Debug)]
 pub struct StatementLine {
     pub series: u64,
