@@ -115,6 +115,7 @@ fn number_behind<'a>(heap: Global, line: &'a str, word: &'a str) -> Result<u32, 
 }
 
 // The lines from here on, and how many were read.
+// Kept: counted here, since the number of a line that is missing is wanted too.
 #[derive(Drop)]
 struct Lines<'a> {
     rest: std::str::Lines<'a>,

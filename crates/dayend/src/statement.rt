@@ -1,3 +1,4 @@
+// Kept: rows are numbered from 1.
 ghost use Rattle.std.specs.Prelude.{◌≡◌, ◌+◌, ◌≤◌, length};
 ghost use Rattle.draws.specs.Checks.{checked};
 ghost use Rattle.settlement.specs.Lines.{written};
@@ -15,6 +16,7 @@ fn places_needed(book: &Ledger) -> usize
 }
 
 // What the lines of a series share.
+// Kept: made of a row and of the day's terms, so this is no From.
 fn terms_of(row: &Series, series: u32, size: u32, day: u32) -> SeriesTerms
     requires { day ≤ 99_999 }
     ensures { result ≡ record { series = series; right = row.now.contract.right; strike = row.now.contract.strike; size = size; settlement_day = day + 2 } }
@@ -29,6 +31,7 @@ fn terms_of(row: &Series, series: u32, size: u32, day: u32) -> SeriesTerms
 }
 
 // Why a statement is turned back, if it is.
+// Kept: the length of the list alone, since nothing is written here.
 pub fn check_statement(book: &Ledger, room: usize) -> Result<(), Refusal>
     ensures { result ≡ checked (statement_checks book.now.state room) }
 {

@@ -21,6 +21,7 @@ pub fn check_open(o: &Opening) -> Result<(), Refusal>
     Ok(())
 }
 
+// Kept: made of three numbers as called in, so this is no From.
 pub fn contract_of(right: u32, strike: u32, expiry: u32) -> Contract
     ensures { result ≡ contract_of right strike expiry }
 {

@@ -1,5 +1,6 @@
 // Kept: facts on a book and a number: a type of the number would hold the loan of a book that the effect changes.
 // Kept: rows are written by place, since a function that lends a `&mut` to an element of an array gets no proof.
+// Kept: facts on cells: laws and definitions are of any cells, so these are no type of their own.
 ghost use Rattle.std.specs.Prelude.{◌≡◌, ◌+◌, ◌≤◌, true};
 ghost use Rattle.draws.specs.Checks.{checked};
 ghost use Rattle.positions.specs.Rows.{Below};

@@ -14,7 +14,7 @@ pub use recorder::{Pair, Recorder, Table};
 pub use tape::Tape;
 
 // A reply as an archive line has it: its number, and the result that goes with it.
-// Kept: of the shape of a pass and of a recorded pair by chance.
+// Kept: the archive's numbers; of the shape of a pass and of a recorded pair by chance.
 #[derive(Clone, Copy, PartialEq, Eq, Debug)]
 pub struct Reply {
     pub number: u32,
@@ -56,6 +56,7 @@ pub trait Draws {
         ensures { result ≡ (meaning self.now).supply };
 
     // A number below n, or a refusal.
+    // Kept: each source makes the same two checks, since only it can say what supply it has before it draws.
     fn draw(&mut self, n: u32) -> Result<u32, Refusal>
         ensures reply { result ≡ drawn n (meaning self.old) }
         ensures number { replied result ≡ draw_reply n (meaning self.old) }

@@ -25,6 +25,7 @@ fn form_in_range(account: u32, form: u32, value: u32) -> bool
 }
 
 // An account's own criterion of a form, none of form 0.
+// Kept: made of two numbers, as `Criterion::of_form` is.
 fn own_of_form(form: u32, value: u32) -> Option<Criterion>
     ensures { result ≡ own_of_form form value }
 {

@@ -1,5 +1,5 @@
 // Kept: codes of kinds are the numbers of the lines, as the definitions of the law have them.
-// Kept: fields of a read line, its kind and its numbers, are parameters: a struct of them would be made for one `match`.
+// Kept: fields of a read line, its kind and its numbers: a struct of them would be made for one `match`.
 ghost use Rattle.std.specs.Prelude.{◌≡◌, slice_index};
 ghost use Rattle.host.specs.Calls.{opening_of, trade_of, position_of, input_of, exercise_of, stage_of, call_of};
 

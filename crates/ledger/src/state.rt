@@ -9,6 +9,7 @@ pub enum Stage {
 }
 
 // The numbers of an opening.
+// Kept: the numbers as called in; what is fixed of them is Terms, and the day goes where it changes.
 #[derive(Clone, Copy, Debug, PartialEq, Eq)]
 pub struct Opening {
     pub number: u32,
@@ -43,6 +44,7 @@ pub struct Contract {
 }
 
 // A series: its terms, and a cell for each account.
+// Kept: cells by the account's place, since an account may be added after the series, and the law names each cell.
 #[derive(Clone, Copy, Debug, PartialEq, Eq)]
 pub struct Series {
     pub contract: Contract,

@@ -1,4 +1,4 @@
-// Kept: codes are read by `try_from`; `of_code` is total, as the definitions are, for a code that was judged before.
+// Kept: codes are read by `try_from`, one for each enum, since each has its variants; `of_code` is for judged codes.
 ghost use Rattle.std.specs.Prelude.{◌≡◌};
 ghost use Rattle.positions.specs.Kinds.{side_of_code, effect_of_code, right_of_code, type_of_code, decoded, is_net};
 

@@ -1,3 +1,4 @@
+// Kept: facts on a cell: laws and definitions are of any cell, so it has no ghost field.
 ghost use Rattle.std.specs.Prelude.{◌≡◌, ◌-◌, ◌*◌, ◌≤◌};
 ghost use Rattle.settlement.specs.Account.{covering, settled, lapsed, at_end};
 

@@ -1,4 +1,5 @@
 // Kept: fields of one allocation, as `allocate` has them.
+// Kept: facts on a cell: laws and definitions are of any cell, so it has no ghost field.
 ghost use Rattle.std.specs.Prelude.{◌≡◌, ℕ, ◌≤◌, map, length, get_or, None, sum, slice_index};
 ghost use Rattle.std.specs.List.{range_with_len};
 ghost use Rattle.draws.specs.Meaning.{behind_all};

@@ -1,4 +1,6 @@
 // Kept: facts on the size, as `SeriesTerms` says.
+// Kept: facts on a cell: laws and definitions are of any cell, so it has no ghost field.
+// Kept: rows are numbered from 1.
 ghost use Rattle.std.specs.Prelude.{◌≡◌, ℕ, ◌+◌, ◌≤◌, [], ◌∷◌, length, slice_index_or};
 ghost use Rattle.positions.specs.Cells.{no_cell};
 ghost use Rattle.settlement.specs.Lines.{exercised_line, covered_line, uncovered_line, if_any, cell_lines, series_lines, one_if_any, line_count, lines_needed, written, Countable};

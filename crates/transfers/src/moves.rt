@@ -2,6 +2,7 @@
 // Kept: fields of a call: a struct of two to four numbers would be made at each call and opened in each check.
 // Kept: facts on a book and a number: a type of the number would hold the loan of a book that the effect changes.
 // Kept: rows are written by place, since a function that lends a `&mut` to an element of an array gets no proof.
+// Kept: facts on cells: laws and definitions are of any cells, so these are no type of their own.
 ghost use Rattle.std.specs.Prelude.{◌≡◌, ◌-◌, ◌≤◌, true, slice_index_or, if◌then◌else◌, Some, None, IfSome};
 ghost use Rattle.draws.specs.Checks.{checked};
 ghost use Rattle.positions.specs.Cells.{no_cell, on_side};
