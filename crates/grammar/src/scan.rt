@@ -7,31 +7,6 @@ ghost use Rattle.grammar.specs.Grammar.{Piece, num, Writes, Wide, Delim, shape, 
 
 use super::kinds::{Row, Sort, fields_of, kinds_of};
 
-// How many digits a number of a line has at most.
-const DIGITS: usize = 8;
-
-// How many digits a number can have that begins as `s` does: 0 stands alone.
-fn room_at(s: &[u8], width: usize) -> usize
-    ensures { result ≡ room width s.now }
-{
-    match s {
-        [b'0', ..] => 1,
-        _ => width,
-    }
-}
-
-// The longest start of `s` that begins a number, and the rest.
-fn digit_run(s: &[u8], width: usize) -> (&[u8], &[u8])
-    ensures { Run width s.now result.0.now result.1.now }
-{
-    let n = s
-        .iter()
-        .take(room_at(s, width))
-        .take_while(|b| b.is_ascii_digit())
-        .count();
-    s.split_at(n)
-}
-
 // What follows the byte `b`.
 fn after<'a>(s: &'a [u8], b: u8) -> Result<&'a [u8], usize>
     ensures { MatchResult result (λ rest. s.now ≡ b ∷ rest.now) (λ left. (left ≡ length s.now) × (first s.now ≢ Some b)) }
@@ -39,36 +14,72 @@ fn after<'a>(s: &'a [u8], b: u8) -> Result<&'a [u8], usize>
     s.strip_prefix(&[b]).ok_or(s.len())
 }
 
-// The digits of a number, and what follows.
-pub(crate) fn read_number<'a>(s: &'a [u8], width: usize) -> Result<(&'a [u8], &'a [u8]), usize>
-    requires { Wide width }
-    ensures { MatchResult result (λ p. NumberRead width s.now p.0.now p.1.now) (λ left. (ps : List Piece) → Stuck (Writes (num width ∷ ps)) s.now left) }
-{
-    let (digits, rest) = digit_run(s, width);
-    if digits.is_empty() {
-        return Err(s.len());
-    }
-    Ok((digits, rest))
+// How many digits a number of a line has at most.
+#[derive(Clone, Copy)]
+pub(crate) struct Width {
+    digits: usize,
+    ghost wide: { Wide digits },
 }
 
-// A blank and a number.
-fn field<'a>(s: &'a [u8], width: usize) -> Result<(&'a [u8], &'a [u8]), usize>
-    requires { Wide width }
-    ensures { MatchResult result (λ p. FieldsRead width 1 0 s.now (p.0.now ∷ []) p.1.now) (λ left. (ps : List Piece) → Delim ps → Stuck (Writes (shape width 1 ps)) s.now left) }
-{
-    read_number(after(s, b' ')?, width)
-}
+impl Width {
+    pub(crate) const OF_ARCHIVE: Width = Width { digits: 8 };
 
-// The digits of as many fields as `out` has places, and what follows.
-pub(crate) fn fields<'a>(s: &'a [u8], width: usize, out: &mut [&'a [u8]]) -> Result<&'a [u8], usize>
-    requires { Wide width }
-    ensures { MatchResult result (λ rest. FieldsRead width (length out.old) 0 s.now (map (λ d. d.now) out.new) rest.now) (λ left. (ps : List Piece) → Delim ps → Stuck (Writes (shape width (length out.old) ps)) s.now left) }
-{
-    let mut rest = s;
-    for place in out.iter_mut() {
-        (*place, rest) = field(rest, width)?;
+    pub(crate) const OF_STATEMENT: Width = Width { digits: 16 };
+
+    // How many digits a number can have that begins as `s` does: 0 stands alone.
+    fn room_at(self, s: &[u8]) -> usize
+        ensures { result ≡ room self.digits s.now }
+    {
+        match s {
+            [b'0', ..] => 1,
+            _ => self.digits,
+        }
     }
-    Ok(rest)
+
+    // The longest start of `s` that begins a number, and the rest.
+    fn digit_run(self, s: &[u8]) -> (&[u8], &[u8])
+        ensures { Run self.digits s.now result.0.now result.1.now }
+    {
+        let n = s
+            .iter()
+            .take(self.room_at(s))
+            .take_while(|b| b.is_ascii_digit())
+            .count();
+        s.split_at(n)
+    }
+
+    // The digits of a number, and what follows.
+    pub(crate) fn read_number<'a>(self, s: &'a [u8]) -> Result<(&'a [u8], &'a [u8]), usize>
+        ensures { MatchResult result (λ p. NumberRead self.digits s.now p.0.now p.1.now) (λ left. (ps : List Piece) → Stuck (Writes (num self.digits ∷ ps)) s.now left) }
+    {
+        let (digits, rest) = self.digit_run(s);
+        if digits.is_empty() {
+            return Err(s.len());
+        }
+        Ok((digits, rest))
+    }
+
+    // A blank and a number.
+    fn read_field<'a>(self, s: &'a [u8]) -> Result<(&'a [u8], &'a [u8]), usize>
+        ensures { MatchResult result (λ p. FieldsRead self.digits 1 0 s.now (p.0.now ∷ []) p.1.now) (λ left. (ps : List Piece) → Delim ps → Stuck (Writes (shape self.digits 1 ps)) s.now left) }
+    {
+        self.read_number(after(s, b' ')?)
+    }
+
+    // The digits of as many fields as `out` has places, and what follows.
+    pub(crate) fn read_fields<'a>(
+        self,
+        s: &'a [u8],
+        out: &mut [&'a [u8]],
+    ) -> Result<&'a [u8], usize>
+        ensures { MatchResult result (λ rest. FieldsRead self.digits (length out.old) 0 s.now (map (λ d. d.now) out.new) rest.now) (λ left. (ps : List Piece) → Delim ps → Stuck (Writes (shape self.digits (length out.old) ps)) s.now left) }
+    {
+        let mut rest = s;
+        for place in out.iter_mut() {
+            (*place, rest) = self.read_field(rest)?;
+        }
+        Ok(rest)
+    }
 }
 
 // The value of a digit.
@@ -94,7 +105,7 @@ pub(crate) fn value_of(digits: &[u8]) -> u64
 pub fn number(field: &[u8]) -> Option<u32>
     ensures { MatchOption result (IsNumber 8 field.now → ⊥) (λ n. IsNumber 8 field.now × (n ≡ digits_value 10 field.now)) }
 {
-    let Ok((digits, rest)) = read_number(field, DIGITS) else {
+    let Ok((digits, rest)) = Width::OF_ARCHIVE.read_number(field) else {
         return None;
     };
     if rest.is_empty() {
@@ -158,7 +169,7 @@ pub fn read_start<'a>(
     ensures { MatchResult result (λ h. StartRead (kinds_of sort) line.now h.kind (map (λ d. d.now) (take h.fields out.new)) h.rest.now) (λ left. (t : List Piece) → Delim t → Stuck (Lines (kinds_of sort) t) line.now left) }
 {
     let head = read_kind(line, kinds_of(sort))?;
-    let rest = fields(head.rest, DIGITS, &mut out[..head.fields])?;
+    let rest = Width::OF_ARCHIVE.read_fields(head.rest, &mut out[..head.fields])?;
     Ok(Head { rest, ..head })
 }
 
@@ -180,8 +191,8 @@ pub fn read_answer<'a>(s: &'a [u8]) -> Result<(&'a [u8], &'a [u8]), usize>
 {
     let mark = after(s, b' ')?;
     let blank = after(mark, b':')?;
-    let (reply, more) = field(blank, DIGITS)?;
-    let (result, end) = field(more, DIGITS)?;
+    let (reply, more) = Width::OF_ARCHIVE.read_field(blank)?;
+    let (result, end) = Width::OF_ARCHIVE.read_field(more)?;
     read_feed(end)?;
     Ok((reply, result))
 }

@@ -2,18 +2,15 @@
 ghost use Rattle.std.specs.Prelude.{map, MatchResult};
 ghost use Rattle.grammar.specs.Grammar.{Writes, Stuck, Done, ten_numbers, TenRead};
 
-use super::scan::{fields, read_feed, read_number, value_of};
-
-// How many digits a number of a statement line has at most.
-const DIGITS: usize = 16;
+use super::scan::{Width, read_feed, value_of};
 
 // The digits of the ten numbers, into `out`.
 fn scan_ten<'a>(line: &'a [u8], out: &mut [&'a [u8]; 10]) -> Result<(), usize>
     ensures { MatchResult result (λ _. TenRead line.now (map (λ f. f.now) out.new)) (λ left. Stuck (Writes ten_numbers) line.now left) }
 {
-    let (first, more) = read_number(line, DIGITS)?;
+    let (first, more) = Width::OF_STATEMENT.read_number(line)?;
     out[0] = first;
-    let end = fields(more, DIGITS, &mut out[1..])?;
+    let end = Width::OF_STATEMENT.read_fields(more, &mut out[1..])?;
     read_feed(end)
 }
 

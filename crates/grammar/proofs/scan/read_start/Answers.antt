@@ -22,7 +22,7 @@ returns c =
     let kind = c.in_ok-head.ensures in
     let n = c.in_ok-head.head.fields in
     let few : length (take n c.args.out.now) ≡ n = length-take-le n c.args.out.now (omega (arith, kind.few)) in
-    let long : length c.fields.new.out ≡ n = c.fields.auto.out ∙ few in
-    rw (take_at c.fields.new.out _ n long)
+    let long : length c.read_fields.new.out ≡ n = c.read_fields.auto.out ∙ few in
+    rw (take_at c.read_fields.new.out _ n long)
     (start_at _ _ _ _ _ _ c.kinds_of.ensures
-    (start_read _ _ _ n _ _ (map (λ d. d.now) c.fields.new.out) _ few (length-map c.fields.new.out (λ d. d.now) ∙ long) kind c.in_ok-rest.ensures))
+    (start_read _ _ _ n _ _ (map (λ d. d.now) c.read_fields.new.out) _ few (length-map c.read_fields.new.out (λ d. d.now) ∙ long) kind c.in_ok-rest.ensures))

@@ -15,6 +15,6 @@ pub returns : goal.returns
 returns c =
     MatchResult-weaker c.read_feed.result c.read_feed.ensures
     (λ u end.
-    let all = first_and_rest c.args.out.now c.in_ok-first.first c.fields.new.out (omega arith) in
-    rw all (ten_read _ _ _ _ _ _ (omega arith) (length-map c.fields.new.out (λ d. d.now) ∙ (omega arith)) c.in_ok-first.ensures c.in_ok-end.ensures end))
+    let all = first_and_rest c.args.out.now c.in_ok-first.first c.read_fields.new.out (omega arith) in
+    rw all (ten_read _ _ _ _ _ _ (omega arith) (length-map c.read_fields.new.out (λ d. d.now) ∙ (omega arith)) c.in_ok-first.ensures c.in_ok-end.ensures end))
     (λ left st. ten_end_stuck _ _ _ _ _ _ _ (omega arith) c.in_ok-first.ensures c.in_ok-end.ensures st)

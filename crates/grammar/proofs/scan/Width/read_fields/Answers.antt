@@ -2,7 +2,7 @@ use Rattle.std.proofs.Common.{◌≡◌, ◌+◌, ◌-◌, [], ◌∷◌, ◌++�
 use Rattle.std.proofs.lemmas.Result.{err_from_is_err_and}
 use Rattle.std.proofs.lemmas.List.{take_more_set, map_push}
 use Rattle.grammar.proofs.Steps.{fields_more, fields_stuck}
-use Rattle.grammar.proofs.scan.fields.Goals as goal
+use Rattle.grammar.proofs.scan.Width.read_fields.Goals as goal
 
 pub returns-in_err-place : goal.returns-in_err-place
 returns-in_err-place c =

@@ -2,12 +2,12 @@ use Rattle.std.proofs.Common.{◌∷◌}
 use Rattle.std.proofs.lemmas.Result.{err_from_is_err_and, MatchResult-weaker}
 use Rattle.grammar.specs.Grammar.{num}
 use Rattle.grammar.proofs.Steps.{field_read, field_stuck, stuck_byte_at}
-use Rattle.grammar.proofs.scan.field.Goals as goal
+use Rattle.grammar.proofs.scan.Width.read_field.Goals as goal
 
 pub returns-in_err-after : goal.returns-in_err-after
 returns-in_err-after c =
     let p = err_from_is_err_and c.from_residual.result c.from_residual.ensures.1 in
-    rw (p.1, p.2) (λ ps d. stuck_byte_at 32 (num c.args.width ∷ ps) _ _ c.in_err-after.ensures.0 c.in_err-after.ensures.1)
+    rw (p.1, p.2) (λ ps d. stuck_byte_at 32 (num c.args.self.digits ∷ ps) _ _ c.in_err-after.ensures.0 c.in_err-after.ensures.1)
 
 pub returns : goal.returns
 returns c =

@@ -6,13 +6,13 @@ use Rattle.std.proofs.lemmas.Iterator.Consumers.{YieldsList-at, count_from_yield
 use Rattle.std.proofs.lemmas.Iterator.Search.{YieldsList-from_take_while}
 use Rattle.grammar.specs.Grammar.{room}
 use Rattle.grammar.proofs.Steps.{run_front}
-use Rattle.grammar.proofs.scan.digit_run.Goals as goal
+use Rattle.grammar.proofs.scan.Width.digit_run.Goals as goal
 
 pub returns : goal.returns
 returns c =
     let s = c.args.s.now in
-    let front = YieldsList-from_take (room c.args.width s) (YieldsList-at c.take.ensures.source (YieldsList-from_slice s cc)) (c.take.ensures.count ∙ c.room_at.ensures) in
+    let front = YieldsList-from_take (room c.args.self.digits s) (YieldsList-at c.take.ensures.source (YieldsList-from_slice s cc)) (c.take.ensures.count ∙ c.room_at.ensures) in
     let n =
     count_from_yields_List c.take_while.result _ c.count-n.ensures.ran
     (YieldsList-from_take_while _ is_ascii_digit (YieldsList-at c.take_while.ensures.source front) c.take_while.ensures.closure c.take_while.ensures.done (λ x b q k. search (rules, tests))) in
-    rw (c.split_at.ensures.front, c.split_at.ensures.back) (run_front c.args.width s _ (n ∙ length-prefix_len is_ascii_digit (take (room c.args.width s) s)))
+    rw (c.split_at.ensures.front, c.split_at.ensures.back) (run_front c.args.self.digits s _ (n ∙ length-prefix_len is_ascii_digit (take (room c.args.self.digits s) s)))
