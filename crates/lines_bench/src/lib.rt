@@ -4,14 +4,12 @@
 use draws::Reply;
 use lines::{Text, fill, fill_faulty, read_input};
 
-// A sum over the bytes that depends on their places.
+// A sum over the bytes in which each counts as often as its place says: the sums of the last bytes, all together.
 fn checksum(bytes: &[u8]) -> u64 {
-    let mut sum: u64 = 0;
-    let mut place: u64 = 0;
-    for b in bytes {
-        place = place.wrapping_add(1);
-        sum = sum.wrapping_add(place.wrapping_mul(*b as u64));
-    }
+    let (sum, _) = bytes.iter().rev().fold((0u64, 0u64), |(sum, last), b| {
+        let last = last.wrapping_add(u64::from(*b));
+        (sum.wrapping_add(last), last)
+    });
     sum
 }
 
@@ -44,13 +42,9 @@ fn is_answered(text: &mut Text, line: &[u8], res: u32) -> bool {
 pub extern "C" fn lines_bench(buffer: &[u8], res: u32) -> u64 {
     let mut text = Text::new();
     let mut sum: u64 = 0;
-    let mut start = 0;
-    for i in 0..buffer.len() {
-        if buffer[i] == b'\n' {
-            if is_answered(&mut text, &buffer[start..i + 1], res) {
-                sum = sum.wrapping_mul(31).wrapping_add(checksum(text.as_bytes()));
-            }
-            start = i + 1;
+    for line in buffer.split_inclusive(|b| *b == b'\n') {
+        if line.ends_with(b"\n") && is_answered(&mut text, line, res) {
+            sum = sum.wrapping_mul(31).wrapping_add(checksum(text.as_bytes()));
         }
     }
     sum
