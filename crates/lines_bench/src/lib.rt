@@ -4,11 +4,13 @@
 use draws::Reply;
 use lines::{Text, fill, fill_faulty, read_input};
 
-// A sum over the bytes that depends on their places.
+// A sum over the bytes in which each counts as often as its place says: the sums of the last bytes, all together.
 fn checksum(bytes: &[u8]) -> u64 {
-    bytes.iter().enumerate().fold(0, |sum: u64, (at, b)| {
-        sum.wrapping_add((at as u64).wrapping_add(1).wrapping_mul(u64::from(*b)))
-    })
+    let (sum, _) = bytes.iter().rev().fold((0u64, 0u64), |(sum, last), b| {
+        let last = last.wrapping_add(u64::from(*b));
+        (sum.wrapping_add(last), last)
+    });
+    sum
 }
 
 // The largest number of an archive line.
