@@ -130,7 +130,7 @@ def shape(body):
 
 
 report("1a a cause answered as an Option", found(r"-> Option<\w*(?:Refusal|Unassigned|Fault)\w*>"))
-report("1b a number for a kind (parameters and fields)", found(r"\b(?:kind|code|form|right|side|answer|role|method|reply|res|\w*_effect)\s*:\s*u(?:8|32|64)\b(?!::)", but=r"fn try_from\("))
+report("1b a number for a kind (parameters and fields)", found(r"\b(?:kind|code|form|right|side|answer|role|method|reply|\w*_effect)\s*:\s*u(?:8|32|64)\b(?!::)", but=r"fn try_from\("))
 report("1c a flag (parameters and fields)", found(r"\b\w+: bool\b"))
 report("1d an enum of one plain variant and one with a value", found(r"enum \w+(?:<[^>]*>)? \{\s*(?:\w+,\s*\w+\([^)]*\),?|\w+\([^)]*\),\s*\w+,?)\s*\}"))
 report("1e a match that turns an Option or a Result into a Result", found(r"(?:Some|Err)\((\w+)\) => Err\(|Ok\((\w+)\) => Ok\(\2\)"))

@@ -55,6 +55,7 @@ impl Book {
         ensures after { self.new.state ≡ kept_or (assignment_refusal self.old.state pass (S.meaning source.old)) self.old.state (assigned_state self.old.state (S.meaning source.old)) }
         ensures source { S.meaning source.new ≡ kept_or (assignment_refusal self.old.state pass (S.meaning source.old)) (S.meaning source.old) (assigning self.old.state (S.meaning source.old)).source }
     {
+        // Kept: as in `cut`.
         if let Err(refusal) = self.check_assignment(&pass, source) {
             return Err((pass, refusal));
         }
@@ -90,6 +91,7 @@ impl Book {
         ensures reply { result ≡ handed (next_day_refusal self.old.state pass day) pass (next_pass pass day) }
         ensures after { self.new.state ≡ kept_or (next_day_refusal self.old.state pass day) self.old.state (next_day self.old.state day) }
     {
+        // Kept: as in `cut`.
         if let Err(refusal) = self.check_next_day(&pass, day) {
             return Err((pass, refusal));
         }

@@ -7,14 +7,20 @@ use std::alloc::Global;
 use std::io;
 use std::io::{BufWriter, Stdout, Write};
 
-// A host between its input, of which the last line may not have ended, and its output. Of a line that has not ended the
-// first bytes are kept, as many as a text holds: more than any line has.
+// A host with its output, and the text of the line that it fills.
 #[derive(Drop)]
-pub struct Desk {
+struct Answering {
     host: Host,
-    begun: Text,
     filled: Text,
     out: BufWriter<Stdout>,
+}
+
+// A host between its input, of which the last line may not have ended, and its output. Of a line that has not ended the
+// first bytes are kept, as many as a text holds: more than any input line has.
+#[derive(Drop)]
+pub struct Desk {
+    answering: Answering,
+    begun: Text,
 }
 
 // How many bytes the first line has with its line feed, if it has ended.
@@ -24,43 +30,38 @@ fn line_end(bytes: &[u8]) -> Option<usize>
     Some(memchr(b'\n', bytes)? + 1)
 }
 
-// Writes the answer to one line.
-fn answer(
-    out: &mut BufWriter<Stdout>,
-    host: &mut Host,
-    filled: &mut Text,
-    line: &[u8],
-) -> io::Result<()> {
-    let statements = host.answer_into(line, filled);
-    out.write_all(filled.as_bytes())?;
-    // Kept: the host is asked for each line by its place, so the loop counts places.
-    for i in 0..statements {
-        let statement = host
-            .statement(i)
-            .ok_or_else(|| io::Error::other("a statement line is too long"))?;
-        out.write_all(statement.as_bytes())?;
+impl Answering {
+    // Writes the answer to one line.
+    fn answer(&mut self, line: &[u8]) -> io::Result<()> {
+        let statements = self.host.answer_into(line, &mut self.filled);
+        self.out.write_all(self.filled.as_bytes())?;
+        // Kept: the host's promise is of one place; an iterator would be a second way to the same lines.
+        for i in 0..statements {
+            let statement = self
+                .host
+                .statement(i)
+                .ok_or_else(|| io::Error::other("a statement line is too long"))?;
+            self.out.write_all(statement.as_bytes())?;
+        }
+        Ok(())
     }
-    Ok(())
 }
 
 impl Desk {
     pub fn new(alloc: Global, out: Stdout) -> io::Result<Desk> {
         Ok(Desk {
-            host: Host::new(),
+            answering: Answering {
+                host: Host::new(),
+                filled: Text::new(),
+                out: BufWriter::new(alloc, out)?,
+            },
             begun: Text::new(),
-            filled: Text::new(),
-            out: BufWriter::new(alloc, out)?,
         })
     }
 
     // Answers the line that was begun.
     fn answer_begun(&mut self) -> io::Result<()> {
-        answer(
-            &mut self.out,
-            &mut self.host,
-            &mut self.filled,
-            self.begun.as_bytes(),
-        )?;
+        self.answering.answer(self.begun.as_bytes())?;
         self.begun.clear();
         Ok(())
     }
@@ -68,7 +69,7 @@ impl Desk {
     // Answers a line whose beginning may have come earlier.
     fn answer_line(&mut self, line: &[u8]) -> io::Result<()> {
         if self.begun.as_bytes().is_empty() {
-            return answer(&mut self.out, &mut self.host, &mut self.filled, line);
+            return self.answering.answer(line);
         }
         self.begun.push_all(line);
         self.answer_begun()
@@ -77,13 +78,14 @@ impl Desk {
     // Answers each line that ends in the bytes, and keeps what follows the last.
     pub fn take(&mut self, bytes: &[u8]) -> io::Result<()> {
         let mut rest = bytes;
+        // Kept: memchr finds the line feed; split_inclusive asks a closure at each byte.
         while let Some(end) = line_end(rest) {
             let (line, more) = rest.split_at(end);
             self.answer_line(line)?;
             rest = more;
         }
         self.begun.push_all(rest);
-        self.out.flush()
+        self.answering.out.flush()
     }
 
     // Answers a last line that has no line feed.
@@ -91,6 +93,6 @@ impl Desk {
         if !self.begun.as_bytes().is_empty() {
             self.answer_begun()?;
         }
-        self.out.flush()
+        self.answering.out.flush()
     }
 }

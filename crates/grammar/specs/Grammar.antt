@@ -99,7 +99,7 @@ pub record FieldsRead (d n m : ℕ) (xs : List ℕ) (texts : List (List ℕ)) (r
   pub numbers : AllByRecursion (IsNumber d) texts
   pub reached : (t : List Piece) → Delim t → Reached (Writes (shape d n t)) (Writes (shape d m t)) (flat_map blanked texts) (map (digits_value 10) texts) rest
 
--- the same by the numbers of the fields
+-- of n fields all but the last m are read from xs, as the numbers ns, and rest follows them
 pub record FieldNumbers (n m : ℕ) (xs ns rest : List ℕ) : Type 0 where
   pub texts : List (List ℕ)
   pub are : ns ≡ map (digits_value 10) texts

@@ -91,6 +91,7 @@ fn digit(b: u8) -> Option<u8>
 }
 
 // The value of the digits of a number.
+// Kept: a loop, since the bound of the value is an invariant, for which a fold has no place.
 pub(crate) fn value_of(digits: &[u8]) -> u64
     requires { IsNumber 16 digits.now }
     ensures { result ≡ digits_value 10 digits.now }
@@ -117,7 +118,7 @@ pub fn number(field: &[u8]) -> Option<u32>
 }
 
 // A kind with its number of fields, and what follows it in a line.
-// Kept: the kind is the number read; a variant of it has the fields, which are not read yet.
+// Kept: `find` and `fields_of` promise an answer for any number, so a kind is a number to them and here.
 #[derive(Clone, Copy)]
 pub struct Head<'a> {
     pub kind: u8,
@@ -176,6 +177,7 @@ pub fn read_start<'a>(
 }
 
 // The numbers of as many fields as `out` has places, and what follows.
+// Kept: `read_fields` with numbers in place of digits; a type parameter would need a trait with the law of each.
 fn field_numbers<'a>(s: &'a [u8], out: &mut [u32]) -> Result<&'a [u8], usize>
     ensures { MatchResult result (λ rest. FieldNumbers (length out.old) 0 s.now out.new rest.now) (λ left. (ps : List Piece) → Delim ps → Stuck (Writes (shape 8 (length out.old) ps)) s.now left) }
 {
@@ -189,6 +191,7 @@ fn field_numbers<'a>(s: &'a [u8], out: &mut [u32]) -> Result<&'a [u8], usize>
 }
 
 // The kind and the numbers at the start of a line of a sort: the numbers come to the front of `out`.
+// Kept: the caller's array with the count in Head, and beside `read_start`: no list is copied, and none is read twice.
 pub fn read_numbers<'a>(line: &'a [u8], sort: Sort, out: &mut [u32; 7]) -> Result<Head<'a>, usize>
     ensures { MatchResult result (λ h. NumbersRead (kinds_of sort) line.now h.kind h.fields (take h.fields out.new) h.rest.now × (drop h.fields out.new ≡ drop h.fields out.old)) (λ left. (t : List Piece) → Delim t → Stuck (Lines (kinds_of sort) t) line.now left) }
 {

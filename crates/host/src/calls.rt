@@ -1,5 +1,5 @@
-// Kept: codes of kinds are the numbers of the lines, as the definitions of the law have them.
-// Kept: fields of a read line, its kind and its numbers: a struct of them would be made for one `match`.
+// Kept: codes of kinds come as numbers from `read_numbers`; an enum would be made of them for these matches alone.
+// Kept: fields of a read line: its kind and numbers pass down to three matches; `lines` writes from the same two.
 ghost use Rattle.std.specs.Prelude.{◌≡◌, slice_index};
 ghost use Rattle.host.specs.Calls.{opening_of, trade_of, position_of, input_of, exercise_of, stage_of, call_of};
 
@@ -13,6 +13,7 @@ pub(crate) fn at(numbers: &[u32], i: usize) -> u32
     numbers.get(i).copied().unwrap_or(0)
 }
 
+// Kept: this type and the two below are of `ledger`, and a slice is nobody's, so none is a From.
 fn opening_of(n: &[u32]) -> Opening
     ensures { result ≡ opening_of n.now }
 {
@@ -134,7 +135,6 @@ fn stage_of(kind: u8, n: &[u32]) -> Option<Call>
 }
 
 // The call of a line's kind and numbers, if the kind has one: a tape number is no call.
-// Kept: a kind stays a number, as the archive and the definitions of the law have it.
 pub(crate) fn call_of(kind: u8, n: &[u32]) -> Option<Call>
     ensures { result ≡ call_of kind n.now }
 {

@@ -1,3 +1,4 @@
+// Kept: codes of kinds come as numbers from `read_numbers`, and `call_of` and one rule of this file read them.
 ghost use Rattle.std.specs.Prelude.{◌≡◌, ℕ, ◌<◌, ◌≤◌, List, [], replicate, Some, None};
 ghost use Rattle.book.specs.declared.pass.Pass.TheVariants.{ForInput};
 ghost use Rattle.register.specs.declared.calls.Call.TheVariants.{Open};
@@ -21,7 +22,7 @@ use settlement::Line;
 
 // A book with the pass that is good now (without a pass no book is open), the tape numbers that no assignment has read,
 // and the places of a statement. The pass leaves its place while a call is made.
-// Kept: as Option<(Book, Pass)> the book of 40 KB was moved at each call, at 0.05 of plain Rust in place of 0.6.
+// Kept: Pass goes by value into each call; Option<(Book, Pass)> moved 40 KB with it, and stood at 0.05 of plain Rust.
 #[derive(Drop)]
 pub struct Host {
     book: Book,
@@ -31,6 +32,7 @@ pub struct Host {
 }
 
 // The filled line, and how many statement lines follow it.
+// Kept: an Option by its promise, though it is always Some; `answer_into` has none.
 #[derive(Clone, Copy)]
 pub struct Answered {
     pub text: Option<Text>,
@@ -38,7 +40,6 @@ pub struct Answered {
 }
 
 // How many statement lines follow a line of that kind with that answer.
-// Kept: the kind is the line's number, as in `call_of`.
 fn statements_after(kind: u8, answer: Result<u32, Refusal>) -> usize
     ensures { result ≡ statements_after kind (replied answer) }
 {
@@ -113,7 +114,6 @@ impl Host {
     }
 
     // Takes a tape number, or makes a call.
-    // Kept: the kind is the line's number, as in `call_of`.
     fn take(&mut self, kind: u8, numbers: &[u32]) -> Result<u32, Refusal>
         ensures reply { replied result ≡ (host_step (shown self.old) kind numbers.now).reply }
         ensures brief { Brief (replied result) }
@@ -126,7 +126,6 @@ impl Host {
     }
 
     // Answers a line that was read as its kind and numbers.
-    // Kept: the kind is the line's number, as in `call_of`.
     fn answer_read(&mut self, kind: u8, numbers: &[u32], line: &[u8], text: &mut Text) -> usize
         requires { InputLine kind numbers.now line.now }
         ensures { FillsText (shown self.old) kind numbers.now (text_of text.new) result (shown self.new) }

@@ -34,11 +34,10 @@ impl Unread {
         ensures reply { replied result ≡ number_reply (unread_of self.old) }
         ensures after { unread_of self.new ≡ with_number (unread_of self.old) number }
     {
-        if self.numbers.room() == 0 {
-            return Err(Refusal::Full);
-        }
-        let _ = self.numbers.push(number);
-        Ok(0)
+        self.numbers
+            .push(number)
+            .map(|()| 0)
+            .map_err(|_| Refusal::Full)
     }
 
     // Keeps the last `left` numbers.

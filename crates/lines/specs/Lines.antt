@@ -1,11 +1,12 @@
 -- Archive lines and statement lines, as they are written.
 use Rattle.std.specs.Prelude.{◌≡◌, ℕ, ◌-◌, ◌<◌, ◌≤◌, List, [], ◌∷◌, ◌++◌, length, take, Some, decimal}
-use Rattle.std.specs.List.{flat_map, AllByRecursion}
+use Rattle.std.specs.List.{AllByRecursion}
 use Rattle.grammar.specs.Kinds.{arity, kinds, filled_kinds, Short}
+use Rattle.grammar.specs.Grammar.{numbered}
 
 -- each number after a blank
 abbrev pub fields_text : List ℕ → List ℕ
-fields_text ns = flat_map (λ n. 32 ∷ decimal n) ns
+fields_text ns = numbered ns
 
 -- ` : `, reply, blank, result, line feed
 abbrev pub answer_text : ℕ → ℕ → List ℕ

@@ -6,11 +6,9 @@ ghost use Rattle.parts.specs.Parts.{kind_of, parts_of};
 ghost use Rattle.lines.specs.Lines.{IsInput, IsFilled, LongestStart};
 ghost use Rattle.lines.specs.Reads.{ReadsInput, ReadsNumbers, ReadsFilled};
 
+use super::text::LONGEST;
 use grammar::{Sort, read_answer, read_feed, read_start};
 use parts::{Filled, Line, line_of};
-
-// No line has more bytes: a statement line can be as long.
-const LONGEST: usize = 170;
 
 // Bytes that are no line of the sort read, by the length of their longest start that begins one.
 #[derive(Clone, Copy, PartialEq, Eq, Debug)]
@@ -20,7 +18,7 @@ pub struct Faulty {
 
 impl Faulty {
     // The fault in a line where so many bytes were left.
-    // Kept: it is made of two things, so this is no From.
+    // Kept: it is made of two things, so this is no From; `left` is a length, as the fault is.
     pub fn of(line: &[u8], left: usize) -> Faulty
         ensures { result.start ≡ min (length line.now - left) 170 }
     {
@@ -40,6 +38,7 @@ fn line_start<'a>(line: &'a [u8], sort: Sort) -> Result<(Line<'a>, &'a [u8]), us
     Ok((line_of(head.kind, &out), head.rest))
 }
 
+// Kept: each of the three scans has another answer and another end, so a start and `read_feed` are all they share.
 fn scan_input<'a>(line: &'a [u8]) -> Result<Line<'a>, usize>
     ensures { MatchResult result (λ l. ReadsInput line.now l) (λ left. Stuck (Lines kinds feed) line.now left) }
 {
@@ -56,6 +55,7 @@ pub fn read_input<'a>(line: &'a [u8]) -> Result<Line<'a>, Faulty>
 }
 
 // The kind and the numbers of an input line, in `out`.
+// Kept: as in `scan_input`.
 fn scan_numbers<'n>(line: &[u8], out: &'n mut [u32; 7]) -> Result<(u8, &'n [u32]), usize>
     ensures { MatchResult result (λ p. ReadsNumbers line.now p.0 p.1.now) (λ left. Stuck (Lines kinds feed) line.now left) }
 {
@@ -83,6 +83,7 @@ fn with_answer<'a>(line: Line<'a>, end: &'a [u8]) -> Result<Filled<'a>, usize>
     })
 }
 
+// Kept: as in `scan_input`.
 fn scan_filled<'a>(line: &'a [u8]) -> Result<Filled<'a>, usize>
     ensures { MatchResult result (λ f. ReadsFilled line.now f) (λ left. Stuck (Lines filled_kinds answer) line.now left) }
 {

@@ -4,10 +4,14 @@ ghost use Rattle.lines.specs.Texts.{text_of, cut};
 
 use few::Few;
 
-// The bytes of a line of any sort: the longest, a statement line, has 170.
+// The longest line of any sort, a statement line.
+pub(crate) const LONGEST: usize = 170;
+
+// The bytes of a line of any sort.
+// Kept: a Few of its own type, since it leaves out in silence what has no room, where Few answers Full.
 #[derive(Clone, Copy)]
 pub struct Text {
-    bytes: Few<u8, 170>,
+    bytes: Few<u8, LONGEST>,
 }
 
 impl Text {
@@ -46,6 +50,7 @@ impl Text {
     }
 
     // Appends the digits of a number.
+    // Kept: `write!` needs an impl of fmt::Write with its laws, which is longer than these two functions.
     fn push_digits(&mut self, n: u64)
         ensures { text_of self.new ≡ cut (text_of self.old ++ decimal n) }
     {
@@ -55,7 +60,7 @@ impl Text {
         self.push(b'0' + (n % 10) as u8);
     }
 
-    // Appends the writing of a number; most have one digit or two.
+    // Appends the writing of a number; most have one digit or two, which is done at once for speed.
     pub fn push_number(&mut self, n: u64)
         ensures { text_of self.new ≡ cut (text_of self.old ++ decimal n) }
     {

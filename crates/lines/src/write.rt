@@ -19,6 +19,7 @@ use parts::{Line, fields_into};
 const LIMIT: u64 = 100_000_000;
 
 // The reply to a faulty input line, by the length of its longest start that begins a line.
+// Kept: reply 2 is of this crate alone; other replies come from the two Refusal enums.
 fn faulty_reply(length: u32) -> Reply
     ensures number { result.number ≡ 2 }
     ensures length { result.result ≡ length }
@@ -129,6 +130,7 @@ fn start_text(kind: u8, numbers: &[u32]) -> Text
 }
 
 // The input line of a kind with these numbers; none where there is no such line.
+// Kept: it ends in a line feed and judges no reply; what it shares with `write_numbers` is `start_text`.
 pub fn write_input_numbers(kind: u8, fields: &[u32]) -> Option<Text>
     ensures { WrittenAs result (InputLine kind fields.now) }
 {

@@ -16,8 +16,7 @@ fn checksum(bytes: &[u8]) -> u64 {
 // The largest number of an archive line.
 const LARGEST: u32 = 99_999_999;
 
-// Makes the text the filled line of an input line, with result `res`, if there is such a line.
-// Kept: what C passes is a number.
+// Makes the text the line's filled line, with result `res`, and answers whether there is such a line.
 fn is_answered(text: &mut Text, line: &[u8], res: u32) -> bool {
     match read_input(line) {
         Ok(_read) => {
@@ -39,7 +38,6 @@ fn is_answered(text: &mut Text, line: &[u8], res: u32) -> bool {
 }
 
 // Reads every line of the buffer as an input line, writes it filled, and sums up what was written.
-// Kept: what C passes is a number.
 #[unsafe(no_mangle)]
 pub extern "C" fn lines_bench(buffer: &[u8], res: u32) -> u64 {
     let mut text = Text::new();

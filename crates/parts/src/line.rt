@@ -100,7 +100,7 @@ pub struct Filled<'a> {
 }
 
 // The line of a known kind, with its fields from the front of `f`.
-// Kept: a kind is the number that stands in the archive's line.
+// Kept: any number may be given, by its promise; an enum of kinds would ask the caller for a known one.
 pub fn line_of<'a>(kind: u8, f: &[&'a [u8]; 7]) -> Line<'a>
     ensures { Made kind f.now result }
 {

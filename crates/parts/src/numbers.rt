@@ -11,6 +11,7 @@ use few::Few;
 use grammar::number;
 
 // At most 9 numbers: seven fields, and of a filled line reply and result.
+// Kept: a Few of its own type, since it leaves out in silence what has no room, where Few answers Full.
 #[derive(Clone, Copy)]
 pub struct Numbers {
     values: Few<u32, 9>,

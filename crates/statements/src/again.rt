@@ -9,7 +9,7 @@ use lines::{Faulty, Text, read_filled, read_input, write_input_numbers, write_nu
 use parts::Numbers;
 
 // What a line was read as, and its text written from that. The numbers of a filled line end with reply and result.
-// Kept: the kind is the number that the line begins with.
+// Kept: the kind goes from `Line::kind` into `write_numbers`, whose promises are of any number.
 #[derive(Clone, Copy)]
 pub struct Rewritten {
     pub kind: u8,
