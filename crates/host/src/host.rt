@@ -1,6 +1,5 @@
 // Kept: codes of kinds come as numbers from `read_numbers`, and `call_of` and one rule of this file read them.
-ghost use Rattle.std.specs.Prelude.{◌≡◌, ℕ, ◌<◌, ◌≤◌, List, [], replicate, Some, None};
-ghost use Rattle.book.specs.declared.pass.Pass.TheVariants.{ForInput};
+ghost use Rattle.std.specs.Prelude.{◌≡◌, ℕ, ◌<◌, ◌≤◌, List, [], replicate, None};
 ghost use Rattle.register.specs.declared.calls.Call.TheVariants.{Open};
 ghost use Rattle.register.specs.Register.{replied, Brief};
 ghost use Rattle.lines.specs.Lines.{InputLine, StatementText};

@@ -1,5 +1,5 @@
 // Reading input lines and filled lines.
-ghost use Rattle.std.specs.Prelude.{◌≡◌, ℕ, ◌-◌, ◌≤◌, min, List, length, MatchResult};
+ghost use Rattle.std.specs.Prelude.{◌≡◌, ◌-◌, ◌≤◌, min, List, length, MatchResult};
 ghost use Rattle.grammar.specs.Kinds.{kinds_of, kinds, filled_kinds};
 ghost use Rattle.grammar.specs.Grammar.{Piece, Delim, Writes, StartRead, AnswerRead, Stuck, Lines, feed, answer};
 ghost use Rattle.parts.specs.Parts.{kind_of, parts_of};

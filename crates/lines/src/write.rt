@@ -13,7 +13,7 @@ use super::numbers::{all_below, push_numbers};
 use super::text::Text;
 use draws::Reply;
 use grammar::{Sort, fields_of, kinds_of, number};
-use parts::{Line, fields_into};
+use parts::{Line, fields_in};
 
 // A number of an archive line has at most 8 digits.
 const LIMIT: u64 = 100_000_000;
@@ -181,5 +181,5 @@ pub fn write_filled(line: &Line<'_>, reply: Reply) -> Option<Text>
     ensures { WrittenAs result (FilledOf line.now reply.number reply.result) }
 {
     let mut out: [&[u8]; 7] = [&[]; 7];
-    filled_text(line.kind(), fields_into(line, &mut out), reply)
+    filled_text(line.kind(), fields_in(line, &mut out), reply)
 }

@@ -4,5 +4,5 @@
 mod line;
 mod numbers;
 
-pub use line::{Filled, Line, fields_into, line_of};
+pub use line::{Filled, Line, fields_in, fields_into, line_of};
 pub use numbers::Numbers;

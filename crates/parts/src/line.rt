@@ -217,20 +217,21 @@ impl Line<'_> {
     }
 }
 
-// Puts `fields` at the front of `out`, and answers that part of it.
-fn place<'b, 'a>(out: &'b mut [&'a [u8]; 7], fields: &[&'a [u8]]) -> &'b [&'a [u8]]
+// Puts `fields` at the front of `out`, and answers how many they are.
+fn place<'a>(out: &mut [&'a [u8]; 7], fields: &[&'a [u8]]) -> usize
     requires { length fields.now ≤ 7 }
-    ensures { result.now ≡ fields.now }
+    ensures few { result ≤ 7 }
+    ensures placed { map (λ f. f.now) (take result out.new) ≡ map (λ f. f.now) fields.now }
 {
-    let front = &mut out[..fields.len()];
-    front.copy_from_slice(fields);
-    front
+    out[..fields.len()].copy_from_slice(fields);
+    fields.len()
 }
 
-// The fields of a line, in `out`.
-pub fn fields_into<'b, 'a>(line: &Line<'a>, out: &'b mut [&'a [u8]; 7]) -> &'b [&'a [u8]]
-    ensures few { length result.now ≤ 7 }
-    ensures placed { map (λ f. f.now) result.now ≡ parts_of line.now }
+// Puts the fields of a line at the front of `out`, and answers how many they are.
+// Kept: the count beside the array, since its promise is of what `out` holds; `fields_in` gives the fields alone.
+pub fn fields_into<'a>(line: &Line<'a>, out: &mut [&'a [u8]; 7]) -> usize
+    ensures few { result ≤ 7 }
+    ensures placed { map (λ f. f.now) (take result out.new) ≡ parts_of line.now }
 {
     match *line {
         Line::Open {
@@ -302,12 +303,21 @@ pub fn fields_into<'b, 'a>(line: &Line<'a>, out: &'b mut [&'a [u8]; 7]) -> &'b [
         Line::FixingPrice { price } => place(out, &[price]),
         Line::Lodge { account, shares } => place(out, &[account, shares]),
         Line::Withdraw { account, shares } => place(out, &[account, shares]),
-        Line::CloseTrading => &[],
-        Line::Cut => &[],
+        Line::CloseTrading => 0,
+        Line::Cut => 0,
         Line::TapeNumber { number } => place(out, &[number]),
-        Line::Assignment => &[],
-        Line::Statement => &[],
+        Line::Assignment => 0,
+        Line::Statement => 0,
         Line::NextDay { day } => place(out, &[day]),
-        Line::FaultyInput => &[],
+        Line::FaultyInput => 0,
     }
+}
+
+// The fields of a line, in `out`.
+pub fn fields_in<'b, 'a>(line: &Line<'a>, out: &'b mut [&'a [u8]; 7]) -> &'b [&'a [u8]]
+    ensures few { length result.now ≤ 7 }
+    ensures placed { map (λ f. f.now) result.now ≡ parts_of line.now }
+{
+    let n = fields_into(line, out);
+    &out[..n]
 }

@@ -6,7 +6,7 @@ ghost use Rattle.grammar.specs.Kinds.{IsNumber};
 ghost use Rattle.parts.specs.Parts.{parts_of, numbers_of};
 ghost use Rattle.parts.specs.Lists.{nine, list_of};
 
-use super::line::{Line, fields_into};
+use super::line::{Line, fields_in};
 use few::Few;
 use grammar::number;
 
@@ -57,6 +57,6 @@ impl Line<'_> {
         ensures { MatchOption result (AllByRecursion (IsNumber 8) (parts_of self.now) → ⊥) (λ n. AllByRecursion (IsNumber 8) (parts_of self.now) × (list_of n ≡ numbers_of self.now)) }
     {
         let mut out: [&[u8]; 7] = [&[]; 7];
-        values(fields_into(self, &mut out))
+        values(fields_in(self, &mut out))
     }
 }
