@@ -1,16 +1,11 @@
 use Rattle.std.proofs.Common.{sym, subst}
-use Rattle.std.proofs.lemmas.Result.{err_from_is_err_and, MatchResult-weaker}
+use Rattle.std.proofs.lemmas.Result.{MatchResult-weaker}
 use Rattle.grammar.specs.Kinds.{filled_kinds}
 use Rattle.grammar.specs.Grammar.{StartRead, answer}
 use Rattle.grammar.proofs.Steps.{stuck_after, answer_delim}
 use Rattle.parts.specs.Parts.{kind_of, parts_of}
 use Rattle.lines.proofs.Tops.{filled_read}
 use Rattle.lines.proofs.read.scan_filled.Goals as goal
-
-pub returns-in_err-read : goal.returns-in_err-read
-returns-in_err-read c =
-    let p = err_from_is_err_and c.from_residual.result c.from_residual.ensures.1 in
-    rw (p.1, p.2) (c.in_err-read.ensures answer answer_delim)
 
 pub returns : goal.returns
 returns c =

@@ -4,11 +4,6 @@ use Rattle.grammar.proofs.Steps.{stuck_after, not_digit_10}
 use Rattle.lines.proofs.Tops.{input_read}
 use Rattle.lines.proofs.read.scan_input.Goals as goal
 
-pub returns-in_err-read : goal.returns-in_err-read
-returns-in_err-read c =
-    let p = err_from_is_err_and c.from_residual.result c.from_residual.ensures.1 in
-    rw (p.1, p.2) (c.in_err-read.ensures feed not_digit_10)
-
 pub returns-in_err-read_feed : goal.returns-in_err-read_feed
 returns-in_err-read_feed c =
     let p = err_from_is_err_and c.from_residual-in_err-read_feed.result c.from_residual-in_err-read_feed.ensures.1 in

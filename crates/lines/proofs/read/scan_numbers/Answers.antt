@@ -4,11 +4,6 @@ use Rattle.grammar.proofs.Steps.{stuck_after, not_digit_10}
 use Rattle.lines.proofs.Tops.{numbers_read}
 use Rattle.lines.proofs.read.scan_numbers.Goals as goal
 
-pub returns-in_err-head : goal.returns-in_err-head
-returns-in_err-head c =
-    let p = err_from_is_err_and c.from_residual.result c.from_residual.ensures.1 in
-    rw (p.1, p.2) (c.in_err-head.ensures feed not_digit_10)
-
 pub returns-in_err-read_feed : goal.returns-in_err-read_feed
 returns-in_err-read_feed c =
     let p = err_from_is_err_and c.from_residual-in_err-read_feed.result c.from_residual-in_err-read_feed.ensures.1 in
