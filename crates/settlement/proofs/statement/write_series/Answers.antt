@@ -1,9 +1,15 @@
-use Rattle.std.proofs.Common.{◌≡◌, ◌+◌, ◌≤◌, length, get_or, ap, ◌∙◌, rules, arith, length-append}
+use Rattle.std.proofs.Common.{◌≡◌, ◌+◌, ◌≤◌, length, get_or, refl, ap, ◌∙◌, rules, arith, length-append}
 use Rattle.positions.specs.Cells.{no_cell}
 use Rattle.settlement.specs.Lines.{cell_lines, lines_of_first, series_lines, written}
-use Rattle.settlement.proofs.Written.{written_next, length_written}
+use Rattle.settlement.proofs.Written.{written_none, written_next, length_written}
 use Rattle.settlement.proofs.LineLaws.{first_more, length_first_le, length_series}
 use Rattle.settlement.proofs.statement.write_series.Goals as goal
+
+pub loop-i-init : goal.loop-i-init
+loop-i-init c = record { same_slice = refl; place = omega arith; after = written_none c.args.lines.now c.args.at }
+
+pub put_account-requires-clause-counts : goal.put_account-requires-clause-counts
+put_account-requires-clause-counts c = c.requires.counts c.loop-i.i
 
 pub put_account-requires-clause-fits : goal.put_account-requires-clause-fits
 put_account-requires-clause-fits c =
