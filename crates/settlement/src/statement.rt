@@ -4,6 +4,7 @@
 ghost use Rattle.std.specs.Prelude.{◌≡◌, ℕ, ◌+◌, ◌≤◌, [], ◌∷◌, length, if◌then◌else◌, ◌==◌, slice_index_or};
 ghost use Rattle.positions.specs.Cells.{no_cell};
 ghost use Rattle.settlement.specs.Lines.{exercised_line, covered_line, uncovered_line, if_any, cell_lines, series_lines, written, Countable};
+ghost use Rattle.settlement.specs.Laws.{LinesEven, LinesSmall, WorkedLines};
 ghost use Rattle.settlement.specs.declared.line.SeriesTerms.{SeriesTerms};
 
 use crate::line::{Line, Method, Role, SeriesTerms};
@@ -72,6 +73,9 @@ pub fn write_series(lines: &mut [Line], at: usize, terms: &SeriesTerms, cells: &
     requires size { terms.now.size ≤ 10_000 }
     ensures place { result ≡ at + length (series_lines terms.now cells.now) }
     ensures after { lines.new ≡ written lines.old at (series_lines terms.now cells.now) }
+    ensures even { LinesEven }
+    ensures small { LinesSmall }
+    ensures worked { WorkedLines }
 {
     let mut writer = Writer { lines, at };
     for (i, cell) in cells.iter().enumerate() {
