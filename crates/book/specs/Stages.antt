@@ -32,9 +32,9 @@ abbrev pub kept_or : {X : Type 0} → Option Refusal → X → X → X
 kept_or None before after = after
 kept_or (Some r) before after = before
 
-abbrev pub replied_with : Option Refusal → ℕ → Result ℕ Refusal
-replied_with None n = Ok n
-replied_with (Some r) n = Err r
+abbrev pub result_unless : Option Refusal → ℕ → Result ℕ Refusal
+result_unless None n = Ok n
+result_unless (Some r) n = Err r
 
 -- ── the cut ──
 

@@ -5,7 +5,7 @@ ghost use Rattle.dayend.specs.Cutoff.{cut};
 ghost use Rattle.dayend.specs.Assignment.{needed, assigning, assigned_state};
 ghost use Rattle.dayend.specs.Statement.{places_needed};
 ghost use Rattle.dayend.specs.NextDay.{next_day};
-ghost use Rattle.book.specs.Stages.{handed, kept_or, replied_with, cut_refusal, cut_pass, assignment_refusal, assigned_pass, statement_refusal, lines_written, next_day_refusal, next_pass};
+ghost use Rattle.book.specs.Stages.{handed, kept_or, result_unless, cut_refusal, cut_pass, assignment_refusal, assigned_pass, statement_refusal, lines_written, next_day_refusal, next_pass};
 
 use crate::book::Book;
 use crate::pass::{AssignedPass, CutPass, InputPass};
@@ -66,7 +66,7 @@ impl Book {
 
     // Writes the statement into the list, from its first place on, and answers how many lines it has.
     pub fn statement(&self, pass: &AssignedPass, lines: &mut [Line]) -> Result<u32, Refusal>
-        ensures reply { result ≡ replied_with (statement_refusal self.now.state pass.now (length lines.old)) (places_needed self.now.state) }
+        ensures reply { result ≡ result_unless (statement_refusal self.now.state pass.now (length lines.old)) (places_needed self.now.state) }
         ensures lines { lines.new ≡ written lines.old 0 (lines_written self.now.state pass.now (length lines.old)) }
     {
         self.admit_assigned(pass)?;
