@@ -12,13 +12,14 @@ use Rattle.settlement.specs.Lines.{lines_needed}
 use Rattle.settlement.proofs.Allocated.{due_held}
 use Rattle.ledger.specs.declared.refusal.Refusal.{Refusal}
 use Rattle.ledger.specs.declared.refusal.Refusal.TheVariants.{PassMisfit, DrawsShort, StatementShort}
+use Rattle.ledger.specs.declared.state.Opening.{Opening}
 use Rattle.ledger.specs.declared.state.Series.{Series}
 use Rattle.ledger.specs.declared.state.Stage.{Stage}
 use Rattle.ledger.specs.declared.state.Stage.TheVariants.{Input, Cut, Assigned}
 use Rattle.ledger.specs.declared.state.State.{State}
 use Rattle.ledger.specs.Replies.{reply_of}
 use Rattle.ledger.specs.Tables.{past_series, cells_of}
-use Rattle.dealing.specs.Listings.{account_checks, account_added, series_checks, series_added}
+use Rattle.dealing.specs.Listings.{open_checks, account_checks, account_added, series_checks, series_added}
 use Rattle.dealing.specs.Trades.{trade_checks, traded}
 use Rattle.transfers.specs.Transfers.{transfer_checks, transferred, give_up_checks, given_up, take_up_checks, taken_up, position_checks, position_moved}
 use Rattle.exercise.specs.Requests.{request_checks, request_added, rejection_checks, request_rejected, denial_checks, denial_noted}
@@ -35,6 +36,7 @@ use Rattle.book.specs.declared.pass.AssignedPass.{AssignedPass}
 use Rattle.book.specs.declared.pass.Pass.{Pass}
 use Rattle.book.specs.declared.pass.Pass.TheVariants.{ForInput, ForCut, ForAssigned}
 use Rattle.book.specs.Calls.{fits_input, refused, outcome}
+use Rattle.book.specs.Opened.{open_refusal}
 use Rattle.book.specs.Stages.{fits_cut, fits_assigned, result_unless, cut_refusal, assignment_refusal, statement_refusal, next_day_refusal}
 use Rattle.register.specs.declared.calls.InputCall.{InputCall}
 use Rattle.register.specs.declared.calls.InputCall.TheVariants.{AddAccount, ListSeries, BookTrade, TransferTrade, GiveUpLeg, TakeUpLeg, TransferPosition}
@@ -75,6 +77,9 @@ outcome_brief (Some r) s n t h b = b
 with_brief : (o : Option Refusal) (n : ℕ) → n < 100_000_000 → IfAny o → Brief (replied reply_of (result_unless o n))
 with_brief None n h b = (lit< tt, h)
 with_brief (Some r) n h b = b
+
+pub opening_brief : (o : Opening) → Brief (replied reply_of (result_unless (open_refusal o) 0))
+opening_brief o = with_brief (open_refusal o) 0 (lit< tt) (first_brief (open_checks o) refl)
 
 -- ── the draws and the places that a sound book needs ──
 

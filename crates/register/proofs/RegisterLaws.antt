@@ -1,5 +1,5 @@
 -- The law, by induction over the register.
-use Rattle.std.proofs.Common.{◌≡◌, ℕ, ◌+◌, Bool, true, false, cond, List, [], ◌∷◌, Some, None, Option, sym, refl, ap, ◌∙◌, subst}
+use Rattle.std.proofs.Common.{◌≡◌, ℕ, ◌+◌, Bool, true, false, cond, List, [], ◌∷◌, Some, None, Option, Ok, Err, Result, IfOk, sym, refl, ap, ◌∙◌, subst}
 use Rattle.std.proofs.lemmas.Bool.{cond-false}
 use Rattle.draws.specs.declared.Reply.{Reply}
 use Rattle.draws.specs.Replies.{is_accepted, replied}
@@ -13,7 +13,7 @@ use Rattle.ledger.specs.declared.state.Stage.TheVariants.{Input}
 use Rattle.ledger.specs.declared.state.Opening.{Opening}
 use Rattle.ledger.specs.declared.state.State.{State}
 use Rattle.ledger.specs.Replies.{reply_of}
-use Rattle.ledger.specs.Tables.{new_account}
+use Rattle.ledger.specs.Tables.{opening, new_account}
 use Rattle.dealing.specs.Listings.{account_checks, account_added, contract_of, series_checks, series_added}
 use Rattle.dealing.specs.Trades.{trade_checks}
 use Rattle.transfers.specs.Transfers.{transfer_checks, transferred, give_up_checks, confirms, take_up_checks, confirmed, rejected, taken_up, position_checks}
@@ -22,6 +22,7 @@ use Rattle.dealing.proofs.OpenLaws.{facts_opened, facts_account_added, room_seri
 use Rattle.dealing.proofs.TradeLaws.{admitted, facts_traded}
 use Rattle.transfers.proofs.TransferLaws.{movable, facts_transferred, give_up_leg, facts_given_up, take_up_leg, confirmable, facts_taken_up}
 use Rattle.transfers.proofs.PositionLaws.{transferable, facts_moved}
+use Rattle.book.specs.declared.book.Book.{Book}
 use Rattle.book.specs.declared.pass.InputPass.{InputPass}
 use Rattle.book.specs.declared.pass.Pass.{Pass}
 use Rattle.book.specs.declared.pass.Pass.TheVariants.{ForInput, ForCut, ForAssigned}
@@ -31,6 +32,7 @@ use Rattle.register.specs.declared.calls.Call.{Call}
 use Rattle.register.specs.declared.calls.ExerciseCall.{ExerciseCall}
 use Rattle.register.specs.declared.calls.ExerciseCall.TheVariants.{RequestExercise, RejectRequest, SetCriterion, DenyExercise, FixPrice, LodgeShares, WithdrawShares, CloseTrading}
 use Rattle.register.specs.declared.calls.Call.TheVariants.{Open, OfInput, OfExercise, CutOff, Assign, GiveStatement, BeginDay}
+use Rattle.book.specs.Opened.{opened, answer_open, open_refusal, open_call}
 use Rattle.book.specs.Stages.{fits_cut, fits_assigned, kept_or, result_unless, cut_refusal, assignment_refusal, next_day_refusal}
 use Rattle.exercise.specs.Requests.{request_checks, rejection_checks, denial_checks}
 use Rattle.exercise.specs.Criteria.{criterion_checks, fixing_checks, lodge_checks, withdrawal_checks}
@@ -46,7 +48,7 @@ use Rattle.draws.specs.Meaning.{Below}
 use Rattle.draws.proofs.Passes.{unless_none}
 use Rattle.register.proofs.StageCounts.{tied_denied, tied_criterion, tied_cut, tied_next_day, tied_assigned}
 use Rattle.book.specs.Calls.{refused, outcome}
-use Rattle.register.specs.Register.{input_answer, exercise_answer, answer, Entry, given, Truthful}
+use Rattle.register.specs.Register.{input_answer, exercise_answer, answer, Entry, given, Truthful, Leads}
 use Rattle.register.specs.Balance.{Count, input_counted, counted, count, leg_counted, assignment_counted}
 use Rattle.book.proofs.PassLaws.{passed, cut_stage, enough_draws}
 use Rattle.register.proofs.BalanceLaws.{Tied}
@@ -217,3 +219,15 @@ step s y m room (ForAssigned p) (BeginDay day) reply b k e =
 pub always : (o : Opening) (r : List Entry) → Truthful o r → Kept (count o r) (given o r)
 always o [] h = record { tied = tied_opening o; sound = facts_opened o h }
 always o (e ∷ r) h = step (given o r) (count o r) e.before e.room e.pass e.call e.reply h.0.below (always o r h.1) h.0.reply
+
+-- ── the opening ──
+
+first_entry : (o : Opening) (x : Option Refusal) (r : Result (Book × InputPass) Refusal) (p : InputPass) → opened r ≡ answer_open x (opening o) p → IfOk r (λ b. (x ≡ None) × (b.0.state ≡ opening o))
+first_entry o None (Ok b) p e = let d : (b.0.state, b.1) ≡ (opening o, p) = cc in (refl, ap (λ (z : State × InputPass). z.0) d)
+first_entry o (Some q) (Ok b) p e = absurd (cc e)
+first_entry o x (Err q) p e = tt
+
+-- an opening that is accepted: the register with no call leads to the book
+pub empty_leads : (o : Opening) (r : Result (Book × InputPass) Refusal) → opened r ≡ open_call o → IfOk r (λ b. Leads o [] b.0.state)
+empty_leads o (Ok b) e = let h = first_entry o (open_refusal o) (Ok b) _ e in record { replies = h.0; shows = h.1 }
+empty_leads o (Err q) e = tt

@@ -1,7 +1,6 @@
 -- The register of a book: every call made since its opening, accepted or turned back, under any pass.
 use Rattle.std.specs.Prelude.{◌≡◌, ℕ, ◌<◌, List, [], ◌∷◌, None, Err, Option, Result}
 use Rattle.draws.specs.declared.Reply.{Reply}
-use Rattle.draws.specs.Checks.{first_refusal}
 use Rattle.draws.specs.Replies.{replied}
 use Rattle.draws.specs.Meaning.{Meaning, Below}
 use Rattle.ledger.specs.declared.refusal.Refusal.{Refusal}
@@ -10,7 +9,6 @@ use Rattle.ledger.specs.declared.state.Opening.{Opening}
 use Rattle.ledger.specs.declared.state.State.{State}
 use Rattle.ledger.specs.Replies.{reply_of}
 use Rattle.ledger.specs.Tables.{opening}
-use Rattle.dealing.specs.Listings.{open_checks}
 use Rattle.dayend.specs.Cutoff.{cut}
 use Rattle.dayend.specs.Assignment.{needed, assigning, assigned_state}
 use Rattle.dayend.specs.Statement.{places_needed}
@@ -28,6 +26,7 @@ use Rattle.register.specs.declared.calls.ExerciseCall.TheVariants.{RequestExerci
 use Rattle.register.specs.declared.calls.Call.{Call}
 use Rattle.register.specs.declared.calls.Call.TheVariants.{Open, OfInput, OfExercise, CutOff, Assign, GiveStatement, BeginDay}
 use Rattle.book.specs.Calls.{Outcome, account_call, series_call, trade_call, transfer_call, give_up_call, take_up_call, position_call, request_call, rejection_call, denial_call, criterion_call, fixing_call, lodge_call, withdrawal_call, closing_call}
+use Rattle.book.specs.Opened.{open_refusal}
 use Rattle.book.specs.Stages.{kept_or, result_unless, cut_refusal, cut_pass, assignment_refusal, assigned_pass, statement_refusal, lines_written, next_day_refusal, next_pass}
 
 -- ── what the rules give for a call ──
@@ -157,7 +156,7 @@ pub record True (s : State) (e : Entry) : Type 0 where
 
 -- the opening was accepted, and every entry is true
 abbrev pub Truthful : Opening → List Entry → Type 0
-Truthful o [] = first_refusal (open_checks o) ≡ None
+Truthful o [] = open_refusal o ≡ None
 Truthful o (e ∷ r) = True (given o r) e × Truthful o r
 
 -- a register that leads to the state s
