@@ -24,7 +24,10 @@ impl Book {
         dayend::check_cut(&self.ledger)
     }
 
-    // Ends the input stage: the pass is used up for a Cut pass, or handed back with the refusal.
+    /// Ends the input stage: the pass is used up for a Cut pass, or handed back with the refusal.
+    ///
+    /// # Errors
+    /// `PassMisfit`, `NoFixingPrice`: the first that holds, as for each call below.
     pub fn cut(&mut self, pass: InputPass) -> Result<CutPass, (InputPass, Refusal)>
         ensures reply { result ≡ handed (cut_refusal self.old.state pass) pass (cut_pass pass) }
         ensures number { replied (λ b. reply_of b.1) (told (λ p. 0) result) ≡ replied reply_of (result_unless (cut_refusal self.old.state pass) 0) }
@@ -47,8 +50,11 @@ impl Book {
         dayend::check_assignment(&self.ledger, source)
     }
 
-    // Exercises what is due and assigns it by draw, and answers the draws used with an Assigned pass, or hands the pass
-    // back with the refusal.
+    /// Exercises what is due and assigns it by draw, and answers the draws used with an Assigned pass, or hands the pass
+    /// back with the refusal.
+    ///
+    /// # Errors
+    /// `PassMisfit`, `DrawsShort` with the draws needed.
     pub fn assign<S: Draws>(
         &mut self,
         source: &mut S,
@@ -68,7 +74,11 @@ impl Book {
         Ok((AssignedPass { number, day }, used))
     }
 
-    // Writes the statement into the list, from its first place on, and answers how many lines it has.
+    /// Writes the statement into the list, from its first place on, and answers how many lines it has. Places past it are
+    /// untouched.
+    ///
+    /// # Errors
+    /// `PassMisfit`, `StatementShort` with the places needed.
     pub fn statement(&self, pass: &AssignedPass, lines: &mut [Line]) -> Result<u32, Refusal>
         ensures reply { result ≡ result_unless (statement_refusal self.now.state pass.now (length lines.old)) (places_needed self.now.state) }
         ensures number { replied reply_of result ≡ replied reply_of (result_unless (statement_refusal self.now.state pass.now (length lines.old)) (places_needed self.now.state)) }
@@ -87,7 +97,10 @@ impl Book {
         dayend::check_next_day(&self.ledger.state, day)
     }
 
-    // Begins the next day: the pass is used up for an Input pass of that day, or handed back with the refusal.
+    /// Begins the next day: the pass is used up for an Input pass of that day, or handed back with the refusal.
+    ///
+    /// # Errors
+    /// `PassMisfit`, `OutOfRange`, `DayNotLater`.
     pub fn next_day(
         &mut self,
         pass: AssignedPass,
