@@ -5,6 +5,7 @@ ghost use Rattle.ledger.specs.Replies.{reply_of};
 ghost use Rattle.settlement.specs.Lines.{written};
 ghost use Rattle.dayend.specs.Cutoff.{cut};
 ghost use Rattle.dayend.specs.Assignment.{needed, assigning, assigned_state};
+ghost use Rattle.dayend.specs.Laws.{DaySettles, AssignmentRests};
 ghost use Rattle.dayend.specs.Statement.{places_needed};
 ghost use Rattle.dayend.specs.NextDay.{next_day};
 ghost use Rattle.book.specs.Stages.{handed, kept_or, result_unless, told, cut_refusal, cut_pass, assignment_refusal, assigned_pass, statement_refusal, lines_written, next_day_refusal, next_pass};
@@ -51,10 +52,12 @@ impl Book {
     }
 
     /// Exercises what is due and assigns it by draw, and answers the draws used with an Assigned pass, or hands the pass
-    /// back with the refusal.
+    /// back with the refusal. What is assigned rests on nothing of the source but its answers to the lists of bounds that
+    /// its supply allows.
     ///
     /// # Errors
     /// `PassMisfit`, `DrawsShort` with the draws needed.
+    #[tactic(auto, using(dayend::proofs::Laws::day_settles, dayend::proofs::Laws::assignment_rests))]
     pub fn assign<S: Draws>(
         &mut self,
         source: &mut S,
@@ -64,6 +67,8 @@ impl Book {
         ensures number { replied (λ b. reply_of b.1) (told (λ b. b.1) result) ≡ replied reply_of (result_unless (assignment_refusal self.old.state pass (S.meaning source.old)) (needed self.old.state)) }
         ensures after { self.new.state ≡ kept_or (assignment_refusal self.old.state pass (S.meaning source.old)) self.old.state (assigned_state self.old.state (S.meaning source.old)) }
         ensures source { S.meaning source.new ≡ kept_or (assignment_refusal self.old.state pass (S.meaning source.old)) (S.meaning source.old) (assigning self.old.state (S.meaning source.old)).source }
+        ensures settles { DaySettles }
+        ensures rests { AssignmentRests }
     {
         // Kept: as in `cut`.
         if let Err(refusal) = self.check_assignment(&pass, source) {
