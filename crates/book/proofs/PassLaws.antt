@@ -1,5 +1,5 @@
 -- A pass that fits says in which stage the book is.
-use Rattle.std.proofs.Common.{◌≡◌, ◌≤◌, Bool, true, false, List, Some, None, Option, Ok, Err, sym, refl}
+use Rattle.std.proofs.Common.{◌≡◌, ◌≤◌, Bool, true, false, List, Some, None, Option, Ok, Err, sym, refl, ap}
 use Rattle.std.proofs.lemmas.Bool.{and_parts, true≢false, leb-true}
 use Rattle.draws.specs.Checks.{unless, first_refusal, passed as answered}
 use Rattle.draws.specs.Meaning.{Meaning}
@@ -14,7 +14,7 @@ use Rattle.dayend.specs.Assignment.{needed, assignment_checks}
 use Rattle.book.specs.declared.pass.InputPass.{InputPass}
 use Rattle.book.specs.declared.pass.CutPass.{CutPass}
 use Rattle.book.specs.Calls.{in_input, in_cut, fits_input, refused}
-use Rattle.book.specs.Stages.{fits_cut}
+use Rattle.book.specs.Stages.{fits_cut, handed}
 
 only_input : (g : Stage) → in_input g ≡ true → g ≡ Input
 only_input Input h = refl
@@ -61,3 +61,8 @@ pub turned_back : (b : Bool) (o : Option Refusal) (r : Refusal) → Ok tt ≡ an
 turned_back true None r h e = absurd (cc e)
 turned_back true (Some q) r h e = cc
 turned_back false o r h e = absurd (cc h)
+
+-- that the pass is handed back with the refusal
+pub handed_back : {P Q : Type 0} (o : Option Refusal) (p b : P) (q : Q) (r : Refusal) → Err (b, r) ≡ handed o p q → (o ≡ Some r) × (b ≡ p)
+handed_back None p b q r e = absurd (cc e)
+handed_back {P} (Some x) p b q r e = let d : (b, r) ≡ (p, x) = cc in (ap (λ (z : P × Refusal). Some z.1) (sym d), ap (λ (z : P × Refusal). z.0) d)

@@ -18,6 +18,9 @@ abbrev pub answer_open : Option Refusal → State → InputPass → Result (Stat
 answer_open None s p = Ok (s, p)
 answer_open (Some r) s p = Err r
 
+abbrev pub open_refusal : Opening → Option Refusal
+open_refusal o = first_refusal (open_checks o)
+
 -- a new book with an Input pass of its number and day, or a refusal
 abbrev pub open_call : Opening → Result (State × InputPass) Refusal
-open_call o = answer_open (first_refusal (open_checks o)) (opening o) (record { number = o.number; day = o.day })
+open_call o = answer_open (open_refusal o) (opening o) (record { number = o.number; day = o.day })

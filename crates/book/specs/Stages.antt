@@ -32,9 +32,15 @@ abbrev pub kept_or : {X : Type 0} → Option Refusal → X → X → X
 kept_or None before after = after
 kept_or (Some r) before after = before
 
-abbrev pub replied_with : Option Refusal → ℕ → Result ℕ Refusal
-replied_with None n = Ok n
-replied_with (Some r) n = Err r
+-- accepted with that result, unless it is refused
+abbrev pub result_unless : Option Refusal → ℕ → Result ℕ Refusal
+result_unless None n = Ok n
+result_unless (Some r) n = Err r
+
+-- an answer that gives more than a number, by its result alone
+abbrev pub told : {Q E : Type 0} → (Q → ℕ) → Result Q E → Result ℕ E
+told result_of (Ok given) = Ok (result_of given)
+told result_of (Err refused) = Err refused
 
 -- ── the cut ──
 

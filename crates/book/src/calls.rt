@@ -1,6 +1,9 @@
 ghost use Rattle.std.specs.Prelude.{◌≡◌};
+ghost use Rattle.draws.specs.Replies.{replied};
+ghost use Rattle.ledger.specs.Replies.{reply_of};
 ghost use Rattle.book.specs.Calls.{account_call, series_call, trade_call, transfer_call, give_up_call, take_up_call, position_call};
-ghost use Rattle.book.specs.Opened.{opened, open_call};
+ghost use Rattle.book.specs.Opened.{opened, open_refusal, open_call};
+ghost use Rattle.book.specs.Stages.{result_unless, told};
 
 use crate::book::Book;
 use crate::pass::InputPass;
@@ -12,7 +15,8 @@ use ledger::{Ledger, Opening, PositionTransfer, Refusal, State, Trade};
 impl Book {
     // Opens a book, with its first pass.
     pub fn open(o: &Opening) -> Result<(Book, InputPass), Refusal>
-        ensures { opened result ≡ open_call o.now }
+        ensures reply { opened result ≡ open_call o.now }
+        ensures number { replied reply_of (told (λ b. 0) result) ≡ replied reply_of (result_unless (open_refusal o.now) 0) }
     {
         dealing::check_open(o)?;
         let state = State::opening(o);
@@ -26,6 +30,7 @@ impl Book {
     // Adds an account, and answers its number.
     pub fn account(&mut self, pass: &InputPass, participant: u32, code: u32) -> Result<u32, Refusal>
         ensures reply { result ≡ (account_call self.old.state pass.now participant code).reply }
+        ensures number { replied reply_of result ≡ replied reply_of (account_call self.old.state pass.now participant code).reply }
         ensures after { self.new.state ≡ (account_call self.old.state pass.now participant code).state }
     {
         self.admit(pass)?;
@@ -42,6 +47,7 @@ impl Book {
         expiry: u32,
     ) -> Result<u32, Refusal>
         ensures reply { result ≡ (series_call self.old.state pass.now right strike expiry).reply }
+        ensures number { replied reply_of result ≡ replied reply_of (series_call self.old.state pass.now right strike expiry).reply }
         ensures after { self.new.state ≡ (series_call self.old.state pass.now right strike expiry).state }
     {
         self.admit(pass)?;
@@ -52,6 +58,7 @@ impl Book {
     // Books a trade, and answers the number of its first leg.
     pub fn trade(&mut self, pass: &InputPass, t: &Trade) -> Result<u32, Refusal>
         ensures reply { result ≡ (trade_call self.old.state pass.now t.now).reply }
+        ensures number { replied reply_of result ≡ replied reply_of (trade_call self.old.state pass.now t.now).reply }
         ensures after { self.new.state ≡ (trade_call self.old.state pass.now t.now).state }
     {
         self.admit(pass)?;
@@ -67,6 +74,7 @@ impl Book {
         account: u32,
     ) -> Result<u32, Refusal>
         ensures reply { result ≡ (transfer_call self.old.state pass.now leg account).reply }
+        ensures number { replied reply_of result ≡ replied reply_of (transfer_call self.old.state pass.now leg account).reply }
         ensures after { self.new.state ≡ (transfer_call self.old.state pass.now leg account).state }
     {
         self.admit(pass)?;
@@ -79,6 +87,7 @@ impl Book {
     // Kept: admit, check, effect; one function with two closures is longer than the three lines.
     pub fn give_up(&mut self, pass: &InputPass, leg: u32, participant: u32) -> Result<u32, Refusal>
         ensures reply { result ≡ (give_up_call self.old.state pass.now leg participant).reply }
+        ensures number { replied reply_of result ≡ replied reply_of (give_up_call self.old.state pass.now leg participant).reply }
         ensures after { self.new.state ≡ (give_up_call self.old.state pass.now leg participant).state }
     {
         self.admit(pass)?;
@@ -96,6 +105,7 @@ impl Book {
         account: u32,
     ) -> Result<u32, Refusal>
         ensures reply { result ≡ (take_up_call self.old.state pass.now leg answer account).reply }
+        ensures number { replied reply_of result ≡ replied reply_of (take_up_call self.old.state pass.now leg answer account).reply }
         ensures after { self.new.state ≡ (take_up_call self.old.state pass.now leg answer account).state }
     {
         self.admit(pass)?;
@@ -112,6 +122,7 @@ impl Book {
         t: &PositionTransfer,
     ) -> Result<u32, Refusal>
         ensures reply { result ≡ (position_call self.old.state pass.now t.now).reply }
+        ensures number { replied reply_of result ≡ replied reply_of (position_call self.old.state pass.now t.now).reply }
         ensures after { self.new.state ≡ (position_call self.old.state pass.now t.now).state }
     {
         self.admit(pass)?;

@@ -1,4 +1,6 @@
 ghost use Rattle.std.specs.Prelude.{◌≡◌};
+ghost use Rattle.draws.specs.Replies.{replied};
+ghost use Rattle.ledger.specs.Replies.{reply_of};
 ghost use Rattle.book.specs.Calls.{request_call, rejection_call, denial_call, criterion_call, fixing_call, lodge_call, withdrawal_call, closing_call};
 
 use crate::book::Book;
@@ -18,6 +20,7 @@ impl Book {
         quantity: u32,
     ) -> Result<u32, Refusal>
         ensures reply { result ≡ (request_call self.old.state pass.now account series quantity).reply }
+        ensures number { replied reply_of result ≡ replied reply_of (request_call self.old.state pass.now account series quantity).reply }
         ensures after { self.new.state ≡ (request_call self.old.state pass.now account series quantity).state }
     {
         self.admit(pass)?;
@@ -29,6 +32,7 @@ impl Book {
     // Kept: as in `give_up`.
     pub fn reject_request(&mut self, pass: &InputPass, request: u32) -> Result<u32, Refusal>
         ensures reply { result ≡ (rejection_call self.old.state pass.now request).reply }
+        ensures number { replied reply_of result ≡ replied reply_of (rejection_call self.old.state pass.now request).reply }
         ensures after { self.new.state ≡ (rejection_call self.old.state pass.now request).state }
     {
         self.admit(pass)?;
@@ -46,6 +50,7 @@ impl Book {
         quantity: u32,
     ) -> Result<u32, Refusal>
         ensures reply { result ≡ (denial_call self.old.state pass.now account series quantity).reply }
+        ensures number { replied reply_of result ≡ replied reply_of (denial_call self.old.state pass.now account series quantity).reply }
         ensures after { self.new.state ≡ (denial_call self.old.state pass.now account series quantity).state }
     {
         self.admit(pass)?;
@@ -64,6 +69,7 @@ impl Book {
         value: u32,
     ) -> Result<u32, Refusal>
         ensures reply { result ≡ (criterion_call self.old.state pass.now account right form value).reply }
+        ensures number { replied reply_of result ≡ replied reply_of (criterion_call self.old.state pass.now account right form value).reply }
         ensures after { self.new.state ≡ (criterion_call self.old.state pass.now account right form value).state }
     {
         self.admit(pass)?;
@@ -75,6 +81,7 @@ impl Book {
     // Gives the fixing price.
     pub fn fixing_price(&mut self, pass: &InputPass, price: u32) -> Result<u32, Refusal>
         ensures reply { result ≡ (fixing_call self.old.state pass.now price).reply }
+        ensures number { replied reply_of result ≡ replied reply_of (fixing_call self.old.state pass.now price).reply }
         ensures after { self.new.state ≡ (fixing_call self.old.state pass.now price).state }
     {
         self.admit(pass)?;
@@ -87,6 +94,7 @@ impl Book {
     // Kept: as in `give_up`.
     pub fn lodge(&mut self, pass: &InputPass, account: u32, shares: u32) -> Result<u32, Refusal>
         ensures reply { result ≡ (lodge_call self.old.state pass.now account shares).reply }
+        ensures number { replied reply_of result ≡ replied reply_of (lodge_call self.old.state pass.now account shares).reply }
         ensures after { self.new.state ≡ (lodge_call self.old.state pass.now account shares).state }
     {
         self.admit(pass)?;
@@ -99,6 +107,7 @@ impl Book {
     // Kept: as in `give_up`.
     pub fn withdraw(&mut self, pass: &InputPass, account: u32, shares: u32) -> Result<u32, Refusal>
         ensures reply { result ≡ (withdrawal_call self.old.state pass.now account shares).reply }
+        ensures number { replied reply_of result ≡ replied reply_of (withdrawal_call self.old.state pass.now account shares).reply }
         ensures after { self.new.state ≡ (withdrawal_call self.old.state pass.now account shares).state }
     {
         self.admit(pass)?;
@@ -110,6 +119,7 @@ impl Book {
     // Ends trading for the day.
     pub fn close_trading(&mut self, pass: &InputPass) -> Result<u32, Refusal>
         ensures reply { result ≡ (closing_call self.old.state pass.now).reply }
+        ensures number { replied reply_of result ≡ replied reply_of (closing_call self.old.state pass.now).reply }
         ensures after { self.new.state ≡ (closing_call self.old.state pass.now).state }
     {
         self.admit(pass)?;

@@ -1,11 +1,13 @@
 ghost use Rattle.std.specs.Prelude.{◌≡◌, length};
 ghost use Rattle.draws.specs.Checks.{passed};
+ghost use Rattle.draws.specs.Replies.{replied};
+ghost use Rattle.ledger.specs.Replies.{reply_of};
 ghost use Rattle.settlement.specs.Lines.{written};
 ghost use Rattle.dayend.specs.Cutoff.{cut};
 ghost use Rattle.dayend.specs.Assignment.{needed, assigning, assigned_state};
 ghost use Rattle.dayend.specs.Statement.{places_needed};
 ghost use Rattle.dayend.specs.NextDay.{next_day};
-ghost use Rattle.book.specs.Stages.{handed, kept_or, replied_with, cut_refusal, cut_pass, assignment_refusal, assigned_pass, statement_refusal, lines_written, next_day_refusal, next_pass};
+ghost use Rattle.book.specs.Stages.{handed, kept_or, result_unless, told, cut_refusal, cut_pass, assignment_refusal, assigned_pass, statement_refusal, lines_written, next_day_refusal, next_pass};
 
 use crate::book::Book;
 use crate::pass::{AssignedPass, CutPass, InputPass};
@@ -25,6 +27,7 @@ impl Book {
     // Ends the input stage: the pass is used up for a Cut pass, or handed back with the refusal.
     pub fn cut(&mut self, pass: InputPass) -> Result<CutPass, (InputPass, Refusal)>
         ensures reply { result ≡ handed (cut_refusal self.old.state pass) pass (cut_pass pass) }
+        ensures number { replied (λ b. reply_of b.1) (told (λ p. 0) result) ≡ replied reply_of (result_unless (cut_refusal self.old.state pass) 0) }
         ensures after { self.new.state ≡ kept_or (cut_refusal self.old.state pass) self.old.state (cut self.old.state) }
     {
         // Kept: the pass goes back beside the refusal, so `?` has no conversion for it.
@@ -52,6 +55,7 @@ impl Book {
         pass: CutPass,
     ) -> Result<(AssignedPass, u32), (CutPass, Refusal)>
         ensures reply { result ≡ handed (assignment_refusal self.old.state pass (S.meaning source.old)) pass (assigned_pass pass, needed self.old.state) }
+        ensures number { replied (λ b. reply_of b.1) (told (λ b. b.1) result) ≡ replied reply_of (result_unless (assignment_refusal self.old.state pass (S.meaning source.old)) (needed self.old.state)) }
         ensures after { self.new.state ≡ kept_or (assignment_refusal self.old.state pass (S.meaning source.old)) self.old.state (assigned_state self.old.state (S.meaning source.old)) }
         ensures source { S.meaning source.new ≡ kept_or (assignment_refusal self.old.state pass (S.meaning source.old)) (S.meaning source.old) (assigning self.old.state (S.meaning source.old)).source }
     {
@@ -66,7 +70,8 @@ impl Book {
 
     // Writes the statement into the list, from its first place on, and answers how many lines it has.
     pub fn statement(&self, pass: &AssignedPass, lines: &mut [Line]) -> Result<u32, Refusal>
-        ensures reply { result ≡ replied_with (statement_refusal self.now.state pass.now (length lines.old)) (places_needed self.now.state) }
+        ensures reply { result ≡ result_unless (statement_refusal self.now.state pass.now (length lines.old)) (places_needed self.now.state) }
+        ensures number { replied reply_of result ≡ replied reply_of (result_unless (statement_refusal self.now.state pass.now (length lines.old)) (places_needed self.now.state)) }
         ensures lines { lines.new ≡ written lines.old 0 (lines_written self.now.state pass.now (length lines.old)) }
     {
         self.admit_assigned(pass)?;
@@ -89,6 +94,7 @@ impl Book {
         day: u32,
     ) -> Result<InputPass, (AssignedPass, Refusal)>
         ensures reply { result ≡ handed (next_day_refusal self.old.state pass day) pass (next_pass pass day) }
+        ensures number { replied (λ b. reply_of b.1) (told (λ p. 0) result) ≡ replied reply_of (result_unless (next_day_refusal self.old.state pass day) 0) }
         ensures after { self.new.state ≡ kept_or (next_day_refusal self.old.state pass day) self.old.state (next_day self.old.state day) }
     {
         // Kept: as in `cut`.

@@ -2,6 +2,7 @@
 use Rattle.std.proofs.Common.{◌≡◌, ℕ, suc, ◌+◌, ◌-◌, ◌*◌, ◌<◌, ◌≤◌, Bool, true, false, ◌&&◌, ltb, leb, List, [], ◌∷◌, length, get_or, Some, None, sum_by, Option, refl, div-le_self, arith, lit<}
 use Rattle.std.proofs.lemmas.List.Sums.{sum_by-cons}
 use Rattle.std.proofs.lemmas.Bool.{and_parts, ltb-true, lt-ltb}
+use Rattle.draws.specs.Replies.{replied}
 use Rattle.draws.specs.Checks.{unless, first_refusal}
 use Rattle.draws.specs.Meaning.{Meaning}
 use Rattle.positions.specs.declared.cell.Cell.{Cell}
@@ -11,13 +12,14 @@ use Rattle.settlement.specs.Lines.{lines_needed}
 use Rattle.settlement.proofs.Allocated.{due_held}
 use Rattle.ledger.specs.declared.refusal.Refusal.{Refusal}
 use Rattle.ledger.specs.declared.refusal.Refusal.TheVariants.{PassMisfit, DrawsShort, StatementShort}
+use Rattle.ledger.specs.declared.state.Opening.{Opening}
 use Rattle.ledger.specs.declared.state.Series.{Series}
 use Rattle.ledger.specs.declared.state.Stage.{Stage}
 use Rattle.ledger.specs.declared.state.Stage.TheVariants.{Input, Cut, Assigned}
 use Rattle.ledger.specs.declared.state.State.{State}
 use Rattle.ledger.specs.Replies.{reply_of}
 use Rattle.ledger.specs.Tables.{past_series, cells_of}
-use Rattle.dealing.specs.Listings.{account_checks, account_added, series_checks, series_added}
+use Rattle.dealing.specs.Listings.{open_checks, account_checks, account_added, series_checks, series_added}
 use Rattle.dealing.specs.Trades.{trade_checks, traded}
 use Rattle.transfers.specs.Transfers.{transfer_checks, transferred, give_up_checks, given_up, take_up_checks, taken_up, position_checks, position_moved}
 use Rattle.exercise.specs.Requests.{request_checks, request_added, rejection_checks, request_rejected, denial_checks, denial_noted}
@@ -34,14 +36,15 @@ use Rattle.book.specs.declared.pass.AssignedPass.{AssignedPass}
 use Rattle.book.specs.declared.pass.Pass.{Pass}
 use Rattle.book.specs.declared.pass.Pass.TheVariants.{ForInput, ForCut, ForAssigned}
 use Rattle.book.specs.Calls.{fits_input, refused, outcome}
-use Rattle.book.specs.Stages.{fits_cut, fits_assigned, replied_with, cut_refusal, assignment_refusal, statement_refusal, next_day_refusal}
+use Rattle.book.specs.Opened.{open_refusal}
+use Rattle.book.specs.Stages.{fits_cut, fits_assigned, result_unless, cut_refusal, assignment_refusal, statement_refusal, next_day_refusal}
 use Rattle.register.specs.declared.calls.InputCall.{InputCall}
 use Rattle.register.specs.declared.calls.InputCall.TheVariants.{AddAccount, ListSeries, BookTrade, TransferTrade, GiveUpLeg, TakeUpLeg, TransferPosition}
 use Rattle.register.specs.declared.calls.ExerciseCall.{ExerciseCall}
 use Rattle.register.specs.declared.calls.ExerciseCall.TheVariants.{RequestExercise, RejectRequest, SetCriterion, DenyExercise, FixPrice, LodgeShares, WithdrawShares, CloseTrading}
 use Rattle.register.specs.declared.calls.Call.{Call}
 use Rattle.register.specs.declared.calls.Call.TheVariants.{Open, OfInput, OfExercise, CutOff, Assign, GiveStatement, BeginDay}
-use Rattle.register.specs.Register.{input_answer, exercise_answer, answer, replied, Brief}
+use Rattle.register.specs.Register.{input_answer, exercise_answer, answer, Brief}
 
 -- ── refusals ──
 
@@ -67,13 +70,16 @@ first_brief (c ∷ cs) h =
 
 -- ── answers ──
 
-outcome_brief : (o : Option Refusal) (s : State) (n : ℕ) (t : State) → n < 100_000_000 → IfAny o → Brief (replied (outcome o s n t).reply)
+outcome_brief : (o : Option Refusal) (s : State) (n : ℕ) (t : State) → n < 100_000_000 → IfAny o → Brief (replied reply_of (outcome o s n t).reply)
 outcome_brief None s n t h b = (lit< tt, h)
 outcome_brief (Some r) s n t h b = b
 
-with_brief : (o : Option Refusal) (n : ℕ) → n < 100_000_000 → IfAny o → Brief (replied (replied_with o n))
+with_brief : (o : Option Refusal) (n : ℕ) → n < 100_000_000 → IfAny o → Brief (replied reply_of (result_unless o n))
 with_brief None n h b = (lit< tt, h)
 with_brief (Some r) n h b = b
+
+pub opening_brief : (o : Opening) → Brief (replied reply_of (result_unless (open_refusal o) 0))
+opening_brief o = with_brief (open_refusal o) 0 (lit< tt) (first_brief (open_checks o) refl)
 
 -- ── the draws and the places that a sound book needs ──
 
@@ -104,10 +110,10 @@ places_few s f =
 -- ── every call ──
 
 module _ (s : State) (f : Facts s) where
-  checked_brief : (p : InputPass) (cs : List (Bool × Refusal)) (n : ℕ) (t : State) → all_brief cs ≡ true → n < 100_000_000 → Brief (replied (outcome (refused s p cs) s n t).reply)
+  checked_brief : (p : InputPass) (cs : List (Bool × Refusal)) (n : ℕ) (t : State) → all_brief cs ≡ true → n < 100_000_000 → Brief (replied reply_of (outcome (refused s p cs) s n t).reply)
   checked_brief p cs n t h k = outcome_brief (refused s p cs) s n t k (first_brief ((fits_input s p, PassMisfit) ∷ cs) h)
 
-  input_brief : (p : InputPass) (c : InputCall) → Brief (replied (input_answer s p c).reply)
+  input_brief : (p : InputPass) (c : InputCall) → Brief (replied reply_of (input_answer s p c).reply)
   input_brief p (AddAccount participant code) = checked_brief p (account_checks s participant code) (s.accounts.count + 1) (account_added s participant code) refl (omega (arith, f.tables.0.0))
   input_brief p (ListSeries right strike expiry) = checked_brief p (series_checks s right strike expiry) (s.series.count + 1) (series_added s right strike expiry) refl (omega (arith, f.tables.0.1))
   input_brief p (BookTrade t) = checked_brief p (trade_checks s t) (s.legs.count + 1) (traded s t) refl (omega (arith, f.tables.0.2))
@@ -116,7 +122,7 @@ module _ (s : State) (f : Facts s) where
   input_brief p (TakeUpLeg leg reply account) = checked_brief p (take_up_checks s leg reply account) 0 (taken_up s leg reply account) refl (lit< tt)
   input_brief p (TransferPosition t) = checked_brief p (position_checks s t) 0 (position_moved s t) refl (lit< tt)
 
-  exercise_brief : (p : InputPass) (c : ExerciseCall) → Brief (replied (exercise_answer s p c).reply)
+  exercise_brief : (p : InputPass) (c : ExerciseCall) → Brief (replied reply_of (exercise_answer s p c).reply)
   exercise_brief p (RequestExercise account series quantity) = checked_brief p (request_checks s account series quantity) (s.requests.count + 1) (request_added s account series quantity) refl (omega (arith, f.tables.0.3))
   exercise_brief p (RejectRequest request) = checked_brief p (rejection_checks s request) 0 (request_rejected s request) refl (lit< tt)
   exercise_brief p (SetCriterion account right form value) = checked_brief p (criterion_checks s account right form value) 0 (criterion_set s account right form value) refl (lit< tt)
@@ -133,17 +139,17 @@ module _ (s : State) (f : Facts s) where
   short_brief : (fits : Bool) (enough : Bool) (r : Refusal) → brief r ≡ true → IfAny (first_refusal ((fits, PassMisfit) ∷ (enough, r) ∷ []))
   short_brief fits enough r h = first_brief ((fits, PassMisfit) ∷ (enough, r) ∷ []) (rw h refl)
 
-  assignment_brief : (m : Meaning) (p : CutPass) → Brief (replied (replied_with (assignment_refusal s p m) (needed s)))
+  assignment_brief : (m : Meaning) (p : CutPass) → Brief (replied reply_of (result_unless (assignment_refusal s p m) (needed s)))
   assignment_brief m p =
       let n = needed_few s f in
       with_brief (assignment_refusal s p m) (needed s) n (short_brief (fits_cut s p) (leb (needed s) m.supply) (DrawsShort (needed s)) (lt-ltb (needed s) 100_000_000 n))
 
-  statement_brief : (room : ℕ) (p : AssignedPass) → Brief (replied (replied_with (statement_refusal s p room) (places_needed s)))
+  statement_brief : (room : ℕ) (p : AssignedPass) → Brief (replied reply_of (result_unless (statement_refusal s p room) (places_needed s)))
   statement_brief room p =
       let n = places_few s f in
       with_brief (statement_refusal s p room) (places_needed s) n (short_brief (fits_assigned s p) (leb (places_needed s) room) (StatementShort (places_needed s)) (lt-ltb (places_needed s) 100_000_000 n))
 
-  pub answer_brief : (m : Meaning) (room : ℕ) (p : Pass) (c : Call) → Brief (replied (answer s m room p c).reply)
+  pub answer_brief : (m : Meaning) (room : ℕ) (p : Pass) (c : Call) → Brief (replied reply_of (answer s m room p c).reply)
   answer_brief m room (ForInput p) (Open o) = misfit_brief
   answer_brief m room (ForInput p) (OfInput c) = input_brief p c
   answer_brief m room (ForInput p) (OfExercise c) = exercise_brief p c

@@ -1,7 +1,8 @@
 -- The law, by induction over the register.
-use Rattle.std.proofs.Common.{◌≡◌, ℕ, ◌+◌, Bool, true, false, cond, eqb, List, [], ◌∷◌, Some, None, Option, sym, refl, ap, ◌∙◌, subst}
+use Rattle.std.proofs.Common.{◌≡◌, ℕ, ◌+◌, Bool, true, false, cond, List, [], ◌∷◌, Some, None, Option, Ok, Err, Result, IfOk, sym, refl, ap, ◌∙◌, subst}
 use Rattle.std.proofs.lemmas.Bool.{cond-false}
 use Rattle.draws.specs.declared.Reply.{Reply}
+use Rattle.draws.specs.Replies.{is_accepted, replied}
 use Rattle.draws.specs.Checks.{first_refusal}
 use Rattle.draws.specs.Meaning.{Meaning}
 use Rattle.positions.specs.Kinds.{type_of_code}
@@ -12,7 +13,7 @@ use Rattle.ledger.specs.declared.state.Stage.TheVariants.{Input}
 use Rattle.ledger.specs.declared.state.Opening.{Opening}
 use Rattle.ledger.specs.declared.state.State.{State}
 use Rattle.ledger.specs.Replies.{reply_of}
-use Rattle.ledger.specs.Tables.{new_account}
+use Rattle.ledger.specs.Tables.{opening, new_account}
 use Rattle.dealing.specs.Listings.{account_checks, account_added, contract_of, series_checks, series_added}
 use Rattle.dealing.specs.Trades.{trade_checks}
 use Rattle.transfers.specs.Transfers.{transfer_checks, transferred, give_up_checks, confirms, take_up_checks, confirmed, rejected, taken_up, position_checks}
@@ -21,6 +22,7 @@ use Rattle.dealing.proofs.OpenLaws.{facts_opened, facts_account_added, room_seri
 use Rattle.dealing.proofs.TradeLaws.{admitted, facts_traded}
 use Rattle.transfers.proofs.TransferLaws.{movable, facts_transferred, give_up_leg, facts_given_up, take_up_leg, confirmable, facts_taken_up}
 use Rattle.transfers.proofs.PositionLaws.{transferable, facts_moved}
+use Rattle.book.specs.declared.book.Book.{Book}
 use Rattle.book.specs.declared.pass.InputPass.{InputPass}
 use Rattle.book.specs.declared.pass.Pass.{Pass}
 use Rattle.book.specs.declared.pass.Pass.TheVariants.{ForInput, ForCut, ForAssigned}
@@ -30,7 +32,8 @@ use Rattle.register.specs.declared.calls.Call.{Call}
 use Rattle.register.specs.declared.calls.ExerciseCall.{ExerciseCall}
 use Rattle.register.specs.declared.calls.ExerciseCall.TheVariants.{RequestExercise, RejectRequest, SetCriterion, DenyExercise, FixPrice, LodgeShares, WithdrawShares, CloseTrading}
 use Rattle.register.specs.declared.calls.Call.TheVariants.{Open, OfInput, OfExercise, CutOff, Assign, GiveStatement, BeginDay}
-use Rattle.book.specs.Stages.{fits_cut, fits_assigned, kept_or, replied_with, cut_refusal, assignment_refusal, next_day_refusal}
+use Rattle.book.specs.Opened.{opened, answer_open, open_refusal, open_call}
+use Rattle.book.specs.Stages.{fits_cut, fits_assigned, kept_or, result_unless, cut_refusal, assignment_refusal, next_day_refusal}
 use Rattle.exercise.specs.Requests.{request_checks, rejection_checks, denial_checks}
 use Rattle.exercise.specs.Criteria.{criterion_checks, fixing_checks, lodge_checks, withdrawal_checks}
 use Rattle.dayend.specs.Cutoff.{cut}
@@ -45,13 +48,13 @@ use Rattle.draws.specs.Meaning.{Below}
 use Rattle.draws.proofs.Passes.{unless_none}
 use Rattle.register.proofs.StageCounts.{tied_denied, tied_criterion, tied_cut, tied_next_day, tied_assigned}
 use Rattle.book.specs.Calls.{refused, outcome}
-use Rattle.register.specs.Register.{input_answer, exercise_answer, answer, Entry, replied, given, Truthful}
+use Rattle.register.specs.Register.{input_answer, exercise_answer, answer, Entry, given, Truthful, Leads}
 use Rattle.register.specs.Balance.{Count, input_counted, counted, count, leg_counted, assignment_counted}
 use Rattle.book.proofs.PassLaws.{passed, cut_stage, enough_draws}
 use Rattle.register.proofs.BalanceLaws.{Tied}
 use Rattle.register.proofs.CountLaws.{tied_opening, tied_account, tied_series, tied_traded, tied_transferred, tied_stepped, tied_moved}
 
-nonzero : (r : Refusal) → eqb (reply_of r).number 0 ≡ false
+nonzero : (r : Refusal) → is_accepted (reply_of r) ≡ false
 nonzero PassMisfit = refl
 nonzero OutOfRange = refl
 nonzero NoAccount = refl
@@ -79,12 +82,12 @@ pub record Kept (y : Count) (s : State) : Type 0 where
   pub sound : Facts s
 
 -- a call turned back changes neither; an accepted one changes both
-by_outcome : (o : Option Refusal) (s t : State) (n : ℕ) (y x : Count) (reply : Reply) → Kept y s → (o ≡ None → Kept x t) → reply ≡ replied (outcome o s n t).reply → Kept (cond (eqb reply.number 0) x y) (outcome o s n t).state
-by_outcome None s t n y x reply old new e = subst (λ (k : Reply). Kept (cond (eqb k.number 0) x y) t) (sym e) (new refl)
-by_outcome (Some r) s t n y x reply old new e = subst (λ (z : Count). Kept z s) (sym (cond-false (eqb reply.number 0) x y (ap (λ (k : Reply). eqb k.number 0) e ∙ nonzero r))) old
+by_outcome : (o : Option Refusal) (s t : State) (n : ℕ) (y x : Count) (reply : Reply) → Kept y s → (o ≡ None → Kept x t) → reply ≡ replied reply_of (outcome o s n t).reply → Kept (cond (is_accepted reply) x y) (outcome o s n t).state
+by_outcome None s t n y x reply old new e = subst (λ (k : Reply). Kept (cond (is_accepted k) x y) t) (sym e) (new refl)
+by_outcome (Some r) s t n y x reply old new e = subst (λ (z : Count). Kept z s) (sym (cond-false (is_accepted reply) x y (ap is_accepted e ∙ nonzero r))) old
 
-by_misfit : (s : State) (y x : Count) (reply : Reply) → Kept y s → reply ≡ reply_of PassMisfit → Kept (cond (eqb reply.number 0) x y) s
-by_misfit s y x reply k e = subst (λ (z : Count). Kept z s) (sym (cond-false (eqb reply.number 0) x y (ap (λ (k : Reply). eqb k.number 0) e))) k
+by_misfit : (s : State) (y x : Count) (reply : Reply) → Kept y s → reply ≡ reply_of PassMisfit → Kept (cond (is_accepted reply) x y) s
+by_misfit s y x reply k e = subst (λ (z : Count). Kept z s) (sym (cond-false (is_accepted reply) x y (ap is_accepted e))) k
 
 module _ (s : State) (y : Count) (p : InputPass) (k : Kept y s) where
   kept_account : (participant code : ℕ) → refused s p (account_checks s participant code) ≡ None → Kept y (account_added s participant code)
@@ -113,7 +116,7 @@ module _ (s : State) (y : Count) (p : InputPass) (k : Kept y s) where
       }
 
   -- a call of the input stage
-  input_step : (c : InputCall) (reply : Reply) → reply ≡ replied (input_answer s p c).reply → Kept (cond (eqb reply.number 0) (input_counted c y) y) (input_answer s p c).state
+  input_step : (c : InputCall) (reply : Reply) → reply ≡ replied reply_of (input_answer s p c).reply → Kept (cond (is_accepted reply) (input_counted c y) y) (input_answer s p c).state
   input_step (AddAccount participant code) reply e = by_outcome (refused s p (account_checks s participant code)) s _ (s.accounts.count + 1) y _ reply k (kept_account participant code) e
   input_step (ListSeries right strike expiry) reply e = by_outcome (refused s p (series_checks s right strike expiry)) s _ (s.series.count + 1) y _ reply k (kept_series right strike expiry) e
   input_step (BookTrade t) reply e =
@@ -147,7 +150,7 @@ module _ (s : State) (y : Count) (p : InputPass) (k : Kept y s) where
   abbrev same : Tied y s
   same = k.tied
 
-  exercise_step : (c : ExerciseCall) (reply : Reply) → reply ≡ replied (exercise_answer s p c).reply → Kept (cond (eqb reply.number 0) y y) (exercise_answer s p c).state
+  exercise_step : (c : ExerciseCall) (reply : Reply) → reply ≡ replied reply_of (exercise_answer s p c).reply → Kept (cond (is_accepted reply) y y) (exercise_answer s p c).state
   exercise_step (RequestExercise a i q) reply e =
       by_outcome (refused s p (request_checks s a i q)) s _ (s.requests.count + 1) y _ reply k
       (λ h. record { tied = record { cells = same.cells; legs = same.legs }; sound = facts_requested s a i q k.sound (requestable s a i q (passed s p (request_checks s a i q) h).1) }) e
@@ -169,16 +172,16 @@ module _ (s : State) (y : Count) (p : InputPass) (k : Kept y s) where
       by_outcome (refused s p []) s _ 0 y _ reply k (λ h. record { tied = record { cells = same.cells; legs = same.legs }; sound = facts_closed s k.sound }) e
 
 -- a call that ends its stage
-by_end : (o : Option Refusal) (s t : State) (n : ℕ) (y : Count) (x : State → Count) (reply : Reply) → Kept y s → (o ≡ None → Kept (x t) t) → reply ≡ replied (replied_with o n) → Kept (cond (eqb reply.number 0) (x (kept_or o s t)) y) (kept_or o s t)
-by_end None s t n y x reply old new e = subst (λ (k : Reply). Kept (cond (eqb k.number 0) (x t) y) t) (sym e) (new refl)
-by_end (Some r) s t n y x reply old new e = subst (λ (z : Count). Kept z s) (sym (cond-false (eqb reply.number 0) (x s) y (ap (λ (k : Reply). eqb k.number 0) e ∙ nonzero r))) old
+by_end : (o : Option Refusal) (s t : State) (n : ℕ) (y : Count) (x : State → Count) (reply : Reply) → Kept y s → (o ≡ None → Kept (x t) t) → reply ≡ replied reply_of (result_unless o n) → Kept (cond (is_accepted reply) (x (kept_or o s t)) y) (kept_or o s t)
+by_end None s t n y x reply old new e = subst (λ (k : Reply). Kept (cond (is_accepted k) (x t) y) t) (sym e) (new refl)
+by_end (Some r) s t n y x reply old new e = subst (λ (z : Count). Kept z s) (sym (cond-false (is_accepted reply) (x s) y (ap is_accepted e ∙ nonzero r))) old
 
 same_count : (b : Bool) (y : Count) (s : State) → Kept y s → Kept (cond b y y) s
 same_count true y s k = k
 same_count false y s k = k
 
 -- one call more
-step : (s : State) (y : Count) (m : Meaning) (room : ℕ) (p : Pass) (c : Call) (reply : Reply) → Below m → Kept y s → reply ≡ replied (answer s m room p c).reply → Kept (cond (eqb reply.number 0) (counted c s (answer s m room p c).state y) y) (answer s m room p c).state
+step : (s : State) (y : Count) (m : Meaning) (room : ℕ) (p : Pass) (c : Call) (reply : Reply) → Below m → Kept y s → reply ≡ replied reply_of (answer s m room p c).reply → Kept (cond (is_accepted reply) (counted c s (answer s m room p c).state y) y) (answer s m room p c).state
 step s y m room (ForInput p) (Open o) reply b k e = by_misfit s y _ reply k e
 step s y m room (ForInput p) (OfInput c) reply b k e = input_step s y p k c reply e
 step s y m room (ForInput p) (OfExercise c) reply b k e = exercise_step s y p k c reply e
@@ -206,7 +209,7 @@ step s y m room (ForAssigned p) (OfInput c) reply b k e = by_misfit s y _ reply 
 step s y m room (ForAssigned p) (OfExercise c) reply b k e = by_misfit s y _ reply k e
 step s y m room (ForAssigned p) CutOff reply b k e = by_misfit s y _ reply k e
 step s y m room (ForAssigned p) Assign reply b k e = by_misfit s y _ reply k e
-step s y m room (ForAssigned p) GiveStatement reply b k e = same_count (eqb reply.number 0) y s k
+step s y m room (ForAssigned p) GiveStatement reply b k e = same_count (is_accepted reply) y s k
 step s y m room (ForAssigned p) (BeginDay day) reply b k e =
     by_end (next_day_refusal s p day) s (next_day s day) 0 y (λ t. record { balance = y.balance; legs = [] }) reply k
     (λ h.
@@ -216,3 +219,15 @@ step s y m room (ForAssigned p) (BeginDay day) reply b k e =
 pub always : (o : Opening) (r : List Entry) → Truthful o r → Kept (count o r) (given o r)
 always o [] h = record { tied = tied_opening o; sound = facts_opened o h }
 always o (e ∷ r) h = step (given o r) (count o r) e.before e.room e.pass e.call e.reply h.0.below (always o r h.1) h.0.reply
+
+-- ── the opening ──
+
+first_entry : (o : Opening) (x : Option Refusal) (r : Result (Book × InputPass) Refusal) (p : InputPass) → opened r ≡ answer_open x (opening o) p → IfOk r (λ b. (x ≡ None) × (b.0.state ≡ opening o))
+first_entry o None (Ok b) p e = let d : (b.0.state, b.1) ≡ (opening o, p) = cc in (refl, ap (λ (z : State × InputPass). z.0) d)
+first_entry o (Some q) (Ok b) p e = absurd (cc e)
+first_entry o x (Err q) p e = tt
+
+-- an opening that is accepted: the register with no call leads to the book
+pub empty_leads : (o : Opening) (r : Result (Book × InputPass) Refusal) → opened r ≡ open_call o → IfOk r (λ b. Leads o [] b.0.state)
+empty_leads o (Ok b) e = let h = first_entry o (open_refusal o) (Ok b) _ e in record { replies = h.0; shows = h.1 }
+empty_leads o (Err q) e = tt

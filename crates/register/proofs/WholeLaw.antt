@@ -1,8 +1,9 @@
 -- The law, whole.
-use Rattle.std.proofs.Common.{◌≡◌, ℕ, ◌+◌, ◌-◌, ◌<◌, ◌≤◌, Bool, true, false, cond, eqb, leb, List, [], ◌∷◌, get_or, Some, None, Option, sym, refl, ap, ◌∙◌, subst, ⊎_elim, arith}
+use Rattle.std.proofs.Common.{◌≡◌, ℕ, ◌+◌, ◌-◌, ◌<◌, ◌≤◌, Bool, true, false, cond, leb, List, [], ◌∷◌, get_or, Some, None, Option, sym, refl, ap, ◌∙◌, subst, ⊎_elim, arith}
 use Rattle.std.proofs.lemmas.Int.{ints}
 use Rattle.std.proofs.lemmas.Bool.{true≢false, le-leb, lt-leb, cases_lt}
 use Rattle.draws.specs.declared.Reply.{Reply}
+use Rattle.draws.specs.Replies.{accepted, is_accepted, replied}
 use Rattle.draws.specs.Checks.{first_refusal}
 use Rattle.draws.specs.Meaning.{Meaning, Below}
 use Rattle.positions.specs.declared.cell.Cell.{Cell}
@@ -12,6 +13,7 @@ use Rattle.ledger.specs.declared.refusal.Refusal.TheVariants.{PassMisfit, DrawsS
 use Rattle.ledger.specs.declared.state.Series.{Series as Listed}
 use Rattle.ledger.specs.declared.state.Opening.{Opening}
 use Rattle.ledger.specs.declared.state.State.{State}
+use Rattle.ledger.specs.Replies.{reply_of}
 use Rattle.ledger.specs.Tables.{cell_at}
 use Rattle.dayend.specs.Assignment.{needed, assigning, assigned_state}
 use Rattle.dayend.specs.Statement.{statement_lines}
@@ -22,8 +24,8 @@ use Rattle.book.specs.declared.pass.Pass.{Pass}
 use Rattle.book.specs.declared.pass.Pass.TheVariants.{ForInput, ForCut, ForAssigned}
 use Rattle.register.specs.declared.calls.Call.{Call}
 use Rattle.register.specs.declared.calls.Call.TheVariants.{Open, OfInput, OfExercise, CutOff, Assign, GiveStatement, BeginDay}
-use Rattle.book.specs.Stages.{fits_cut, kept_or, replied_with, assignment_refusal, statement_refusal}
-use Rattle.register.specs.Register.{Entry, replied, answer, given, Truthful}
+use Rattle.book.specs.Stages.{fits_cut, kept_or, result_unless, assignment_refusal, statement_refusal}
+use Rattle.register.specs.Register.{Entry, answer, given, Truthful}
 use Rattle.register.specs.Balance.{count}
 use Rattle.register.specs.Law.{of_assignment, in_assignments, Drawn, EvenLines, Law}
 use Rattle.book.proofs.PassLaws.{cut_stage}
@@ -42,7 +44,7 @@ settled_always o (e ∷ r) i h lt =
     let b = (always o (e ∷ r) h).sound.balanced (i - 1) lt in
     let a = by_call e.call _ _ b.2.0 in
     let d = settled_always o r i h.1 lt in
-    omega (arith, d, ap (λ (n : ℕ). cond (eqb e.reply.number 0) n 0) a)
+    omega (arith, d, ap (λ (n : ℕ). cond (is_accepted e.reply) n 0) a)
 
 -- ── the draws of an assignment whose pass fits ──
 
@@ -57,7 +59,7 @@ when_enough true false n hf hg = absurd (true≢false (sym hg))
 when_enough false g n hf hg = absurd (true≢false (sym hf))
 
 module _ (s t : State) (p : CutPass) (e : Entry) (f : Facts s) (fits : fits_cut s p ≡ true) (below : Below e.before)
-    (replies : e.reply ≡ replied (replied_with (assignment_refusal s p e.before) (needed s)))
+    (replies : e.reply ≡ replied reply_of (result_unless (assignment_refusal s p e.before) (needed s)))
     (leaves : e.after ≡ kept_or (assignment_refusal s p e.before) e.before (assigning s e.before).source)
     (shows : t ≡ kept_or (assignment_refusal s p e.before) s (assigned_state s e.before)) where
   abbrev m : Meaning
@@ -72,11 +74,11 @@ module _ (s t : State) (p : CutPass) (e : Entry) (f : Facts s) (fits : fits_cut 
   no_refusal : n ≤ m.supply → assignment_refusal s p m ≡ None
   no_refusal le = when_enough (fits_cut s p) (leb n m.supply) n fits (le-leb n m.supply le)
 
-  reply_short : m.supply < n → e.reply ≡ record { number = 16; result = n }
-  reply_short lt = replies ∙ ap (λ (o : Option Refusal). replied (replied_with o n)) (short_refusal lt)
+  reply_short : m.supply < n → e.reply ≡ reply_of (DrawsShort n)
+  reply_short lt = replies ∙ ap (λ (o : Option Refusal). replied reply_of (result_unless o n)) (short_refusal lt)
 
-  reply_enough : n ≤ m.supply → e.reply ≡ record { number = 0; result = n }
-  reply_enough le = replies ∙ ap (λ (o : Option Refusal). replied (replied_with o n)) (no_refusal le)
+  reply_enough : n ≤ m.supply → e.reply ≡ accepted n
+  reply_enough le = replies ∙ ap (λ (o : Option Refusal). replied reply_of (result_unless o n)) (no_refusal le)
 
   after_enough : n ≤ m.supply → e.after ≡ (assigning s m).source
   after_enough le = leaves ∙ ap (λ (o : Option Refusal). kept_or o m (assigning s m).source) (no_refusal le)
@@ -86,8 +88,8 @@ module _ (s t : State) (p : CutPass) (e : Entry) (f : Facts s) (fits : fits_cut 
 
   drawn : Drawn s t e
   drawn = record {
-    short = λ lt. ap (λ (r : Reply). r.number) (reply_short lt);
-    enough = λ le. ap (λ (r : Reply). r.number) (reply_enough le);
+    short = reply_short;
+    enough = reply_enough;
     spent = λ le. ap (λ (k : Meaning). k.supply + n) (after_enough le) ∙ supply_spent s m f (cut_stage s p fits) below le;
     unspent = λ lt. (leaves ∙ ap (λ (o : Option Refusal). kept_or o m (assigning s m).source) (short_refusal lt), shows ∙ ap (λ (o : Option Refusal). kept_or o s (assigned_state s m)) (short_refusal lt));
     result = ⊎_elim (λ (lt : m.supply < n). ap (λ (r : Reply). r.result) (reply_short lt)) (λ (le : n ≤ m.supply). ap (λ (r : Reply). r.result) (reply_enough le)) (cases_lt m.supply n);
@@ -142,7 +144,7 @@ law o r s l =
       },
       λ e p t n under is fits.
           let h = n.replies.0 in
-          let P : State → Pass → Call → Type 0 = λ x q c. (e.reply ≡ replied (answer x e.before e.room q c).reply) × (e.after ≡ (answer x e.before e.room q c).source) × (t ≡ (answer x e.before e.room q c).state) in
+          let P : State → Pass → Call → Type 0 = λ x q c. (e.reply ≡ replied reply_of (answer x e.before e.room q c).reply) × (e.after ≡ (answer x e.before e.room q c).source) × (t ≡ (answer x e.before e.room q c).state) in
           let w = subst (λ (c : Call). P s (ForCut p) c) is (subst (λ (q : Pass). P s q e.call) under (subst (λ (x : State). P x e.pass e.call) (sym l.shows) (h.reply, h.after, n.shows))) in
           drawn s t p e f fits h.below w.0 w.1 w.2,
       λ e t n.

@@ -1,5 +1,6 @@
 -- The balance of a register, counted from its entries alone, beside a list of the day's legs.
 use Rattle.std.specs.Prelude.{ℕ, ◌-◌, cond, ◌&&◌, List, [], ◌∷◌, ◌++◌, ℤ, pos, ◌+ℤ◌, neg_ℤ, ◌==◌, slice_index_or, slice_set}
+use Rattle.draws.specs.Replies.{is_accepted}
 use Rattle.positions.specs.declared.kinds.Side.{Side}
 use Rattle.positions.specs.declared.kinds.Side.TheVariants.{Buy, Sell}
 use Rattle.positions.specs.Kinds.{side_of_code}
@@ -97,4 +98,4 @@ counted (BeginDay day) s t y = record { balance = y.balance; legs = [] }
 -- at first every balance is 0 and no leg is listed; a call turned back changes nothing
 abbrev pub count : Opening → List Entry → Count
 count o [] = record { balance = λ a i. pos 0; legs = [] }
-count o (e ∷ r) = cond (e.reply.number == 0) (counted e.call (given o r) (given o (e ∷ r)) (count o r)) (count o r)
+count o (e ∷ r) = cond (is_accepted e.reply) (counted e.call (given o r) (given o (e ∷ r)) (count o r)) (count o r)

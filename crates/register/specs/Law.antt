@@ -1,9 +1,12 @@
 -- The law on holders and writers.
 use Rattle.std.specs.Prelude.{◌≡◌, ℕ, ◌+◌, ◌-◌, ◌<◌, ◌≤◌, true, cond, List, [], ◌∷◌, pos, ◌+ℤ◌, neg_ℤ, sum_by, ◌==◌}
+use Rattle.draws.specs.Replies.{accepted, is_accepted}
 use Rattle.positions.specs.declared.cell.Cell.{Cell}
 use Rattle.positions.specs.Rows.{total_longs, total_shorts}
+use Rattle.ledger.specs.declared.refusal.Refusal.TheVariants.{DrawsShort}
 use Rattle.ledger.specs.declared.state.Opening.{Opening}
 use Rattle.ledger.specs.declared.state.State.{State}
+use Rattle.ledger.specs.Replies.{reply_of}
 use Rattle.ledger.specs.Tables.{cells_of, cell_at}
 use Rattle.dayend.specs.Assignment.{needed}
 use Rattle.settlement.specs.declared.line.Line.{Line}
@@ -36,7 +39,7 @@ of_assignment (BeginDay day) n = 0
 
 abbrev pub in_assignments : (Cell → ℕ) → Opening → List Entry → ℕ → ℕ
 in_assignments f o [] i = 0
-in_assignments f o (e ∷ r) i = cond (e.reply.number == 0) (of_assignment e.call (sum_by f (cells_of (given o (e ∷ r)) (i - 1)))) 0 + in_assignments f o r i
+in_assignments f o (e ∷ r) i = cond (is_accepted e.reply) (of_assignment e.call (sum_by f (cells_of (given o (e ∷ r)) (i - 1)))) 0 + in_assignments f o r i
 
 -- ── what holds at the opening and after each call ──
 
@@ -52,8 +55,8 @@ pub record Holds (o : Opening) (r : List Entry) (s : State) : Type 0 where
 
 pub record Drawn (s t : State) (e : Entry) : Type 0 where
   -- it is turned back exactly when the supply is below the draws needed
-  pub short : e.before.supply < needed s → e.reply.number ≡ 16
-  pub enough : needed s ≤ e.before.supply → e.reply.number ≡ 0
+  pub short : e.before.supply < needed s → e.reply ≡ reply_of (DrawsShort (needed s))
+  pub enough : needed s ≤ e.before.supply → e.reply ≡ accepted (needed s)
   -- accepted, it lowers the supply by exactly that number; turned back, it changes nothing
   pub spent : needed s ≤ e.before.supply → e.after.supply + needed s ≡ e.before.supply
   pub unspent : e.before.supply < needed s → (e.after ≡ e.before) × (t ≡ s)

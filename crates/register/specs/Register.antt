@@ -1,7 +1,7 @@
 -- The register of a book: every call made since its opening, accepted or turned back, under any pass.
-use Rattle.std.specs.Prelude.{◌≡◌, ℕ, ◌<◌, List, [], ◌∷◌, None, Ok, Err, Option, Result}
+use Rattle.std.specs.Prelude.{◌≡◌, ℕ, ◌<◌, List, [], ◌∷◌, None, Err, Option, Result}
 use Rattle.draws.specs.declared.Reply.{Reply}
-use Rattle.draws.specs.Checks.{first_refusal}
+use Rattle.draws.specs.Replies.{replied}
 use Rattle.draws.specs.Meaning.{Meaning, Below}
 use Rattle.ledger.specs.declared.refusal.Refusal.{Refusal}
 use Rattle.ledger.specs.declared.refusal.Refusal.TheVariants.{PassMisfit}
@@ -9,7 +9,6 @@ use Rattle.ledger.specs.declared.state.Opening.{Opening}
 use Rattle.ledger.specs.declared.state.State.{State}
 use Rattle.ledger.specs.Replies.{reply_of}
 use Rattle.ledger.specs.Tables.{opening}
-use Rattle.dealing.specs.Listings.{open_checks}
 use Rattle.dayend.specs.Cutoff.{cut}
 use Rattle.dayend.specs.Assignment.{needed, assigning, assigned_state}
 use Rattle.dayend.specs.Statement.{places_needed}
@@ -27,7 +26,8 @@ use Rattle.register.specs.declared.calls.ExerciseCall.TheVariants.{RequestExerci
 use Rattle.register.specs.declared.calls.Call.{Call}
 use Rattle.register.specs.declared.calls.Call.TheVariants.{Open, OfInput, OfExercise, CutOff, Assign, GiveStatement, BeginDay}
 use Rattle.book.specs.Calls.{Outcome, account_call, series_call, trade_call, transfer_call, give_up_call, take_up_call, position_call, request_call, rejection_call, denial_call, criterion_call, fixing_call, lodge_call, withdrawal_call, closing_call}
-use Rattle.book.specs.Stages.{kept_or, replied_with, cut_refusal, cut_pass, assignment_refusal, assigned_pass, statement_refusal, lines_written, next_day_refusal, next_pass}
+use Rattle.book.specs.Opened.{open_refusal}
+use Rattle.book.specs.Stages.{kept_or, result_unless, cut_refusal, cut_pass, assignment_refusal, assigned_pass, statement_refusal, lines_written, next_day_refusal, next_pass}
 
 -- ── what the rules give for a call ──
 
@@ -69,7 +69,7 @@ under_input u m p = record { reply = u.reply; state = u.state; pass = ForInput p
 
 -- a call that ends its stage: what it makes is there where it is not turned back
 abbrev pub ended : Option Refusal → ℕ → State → State → Pass → Pass → Meaning → After
-ended o n s t p q m = record { reply = replied_with o n; state = kept_or o s t; pass = kept_or o p q; source = m; lines = [] }
+ended o n s t p q m = record { reply = result_unless o n; state = kept_or o s t; pass = kept_or o p q; source = m; lines = [] }
 
 abbrev pub cut_answer : State → Meaning → InputPass → After
 cut_answer s m p = ended (cut_refusal s p) 0 s (cut s) (ForInput p) (ForCut (cut_pass p)) m
@@ -78,7 +78,7 @@ abbrev pub assignment_answer : State → Meaning → CutPass → After
 assignment_answer s m p = ended (assignment_refusal s p m) (needed s) s (assigned_state s m) (ForCut p) (ForAssigned (assigned_pass p)) (kept_or (assignment_refusal s p m) m (assigning s m).source)
 
 abbrev pub statement_answer : State → Meaning → ℕ → AssignedPass → After
-statement_answer s m room p = record { reply = replied_with (statement_refusal s p room) (places_needed s); state = s; pass = ForAssigned p; source = m; lines = lines_written s p room }
+statement_answer s m room p = record { reply = result_unless (statement_refusal s p room) (places_needed s); state = s; pass = ForAssigned p; source = m; lines = lines_written s p room }
 
 abbrev pub next_day_answer : State → Meaning → AssignedPass → ℕ → After
 next_day_answer s m p day = ended (next_day_refusal s p day) 0 s (next_day s day) (ForAssigned p) (ForInput (next_pass p day)) m
@@ -120,11 +120,6 @@ pub record Entry : Type 0 where
   pub lines : List Line
   pub reply : Reply
 
--- reply 0 accepts, with the call's result; a refusal has its own number and result
-abbrev pub replied : Result ℕ Refusal → Reply
-replied (Ok n) = record { number = 0; result = n }
-replied (Err r) = reply_of r
-
 -- reply and result have at most 8 digits, as the numbers of a line have
 abbrev pub Brief : Reply → Type 0
 Brief r = (r.number < 100_000_000) × (r.result < 100_000_000)
@@ -141,7 +136,7 @@ pub record Fits (l : Line) : Type 0 where
   pub day : l.settlement_day < 10_000_000_000_000_000
 
 abbrev pub entry : Pass → Call → Meaning → Meaning → ℕ → List Line → Result ℕ Refusal → Entry
-entry p c m n room lines a = record { pass = p; call = c; before = m; after = n; room = room; lines = lines; reply = replied a }
+entry p c m n room lines a = record { pass = p; call = c; before = m; after = n; room = room; lines = lines; reply = replied reply_of a }
 
 -- what the rules give that entry's call in the state s
 abbrev pub answer_to : State → Entry → After
@@ -154,14 +149,14 @@ given o (e ∷ r) = (answer_to (given o r) e).state
 
 -- the entry says what the rules give its call, and its source keeps the rule for answers
 pub record True (s : State) (e : Entry) : Type 0 where
-  pub reply : e.reply ≡ replied (answer_to s e).reply
+  pub reply : e.reply ≡ replied reply_of (answer_to s e).reply
   pub after : e.after ≡ (answer_to s e).source
   pub lines : e.lines ≡ (answer_to s e).lines
   pub below : Below e.before
 
 -- the opening was accepted, and every entry is true
 abbrev pub Truthful : Opening → List Entry → Type 0
-Truthful o [] = first_refusal (open_checks o) ≡ None
+Truthful o [] = open_refusal o ≡ None
 Truthful o (e ∷ r) = True (given o r) e × Truthful o r
 
 -- a register that leads to the state s

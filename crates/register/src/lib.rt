@@ -3,8 +3,10 @@
 #![tactic(auto)]
 
 mod calls;
+mod opening;
 mod performing;
 
 pub use calls::{Call, Done, ExerciseCall, InputCall};
 pub use ledger::Opening;
+pub use opening::open;
 pub use performing::perform;

@@ -3,10 +3,11 @@
 ghost use Rattle.std.specs.Prelude.{◌≡◌, List, ◌∷◌, length};
 ghost use Rattle.std.specs.List.{AllByRecursion};
 ghost use Rattle.book.specs.declared.pass.Pass.TheVariants.{ForInput, ForCut, ForAssigned};
+ghost use Rattle.draws.specs.Replies.{replied};
 ghost use Rattle.settlement.specs.Lines.{written};
 ghost use Rattle.ledger.specs.declared.state.Opening.{Opening};
-ghost use Rattle.register.specs.Register.{input_answer, exercise_answer, answer, replied, Brief, Fits, Entry, entry, Leads};
-ghost use Rattle.register.specs.Performed.{after_of};
+ghost use Rattle.ledger.specs.Replies.{reply_of};
+ghost use Rattle.register.specs.Register.{input_answer, exercise_answer, answer, Brief, Fits, Entry, entry, Leads};
 ghost use Rattle.register.specs.Examples.{Examples};
 ghost use Rattle.register.specs.Law.{Law};
 
@@ -85,7 +86,10 @@ fn under_input<S: Draws>(
     pass: InputPass,
     call: &Call,
 ) -> Done
-    ensures done { after_of result book.new (S.meaning source.new) (answer book.old.state (S.meaning source.old) (length lines.old) (ForInput pass) call.now).lines ≡ answer book.old.state (S.meaning source.old) (length lines.old) (ForInput pass) call.now }
+    ensures reply { result.reply ≡ (answer book.old.state (S.meaning source.old) (length lines.old) (ForInput pass) call.now).reply }
+    ensures pass { result.pass ≡ (answer book.old.state (S.meaning source.old) (length lines.old) (ForInput pass) call.now).pass }
+    ensures book { book.new.state ≡ (answer book.old.state (S.meaning source.old) (length lines.old) (ForInput pass) call.now).state }
+    ensures source { S.meaning source.new ≡ (answer book.old.state (S.meaning source.old) (length lines.old) (ForInput pass) call.now).source }
     ensures lines { lines.new ≡ written lines.old 0 (answer book.old.state (S.meaning source.old) (length lines.old) (ForInput pass) call.now).lines }
 {
     match call {
@@ -113,7 +117,10 @@ fn under_cut<S: Draws>(
     pass: CutPass,
     call: &Call,
 ) -> Done
-    ensures done { after_of result book.new (S.meaning source.new) (answer book.old.state (S.meaning source.old) (length lines.old) (ForCut pass) call.now).lines ≡ answer book.old.state (S.meaning source.old) (length lines.old) (ForCut pass) call.now }
+    ensures reply { result.reply ≡ (answer book.old.state (S.meaning source.old) (length lines.old) (ForCut pass) call.now).reply }
+    ensures pass { result.pass ≡ (answer book.old.state (S.meaning source.old) (length lines.old) (ForCut pass) call.now).pass }
+    ensures book { book.new.state ≡ (answer book.old.state (S.meaning source.old) (length lines.old) (ForCut pass) call.now).state }
+    ensures source { S.meaning source.new ≡ (answer book.old.state (S.meaning source.old) (length lines.old) (ForCut pass) call.now).source }
     ensures lines { lines.new ≡ written lines.old 0 (answer book.old.state (S.meaning source.old) (length lines.old) (ForCut pass) call.now).lines }
 {
     match call {
@@ -133,7 +140,10 @@ fn under_assigned<S: Draws>(
     pass: AssignedPass,
     call: &Call,
 ) -> Done
-    ensures done { after_of result book.new (S.meaning source.new) (answer book.old.state (S.meaning source.old) (length lines.old) (ForAssigned pass) call.now).lines ≡ answer book.old.state (S.meaning source.old) (length lines.old) (ForAssigned pass) call.now }
+    ensures reply { result.reply ≡ (answer book.old.state (S.meaning source.old) (length lines.old) (ForAssigned pass) call.now).reply }
+    ensures pass { result.pass ≡ (answer book.old.state (S.meaning source.old) (length lines.old) (ForAssigned pass) call.now).pass }
+    ensures book { book.new.state ≡ (answer book.old.state (S.meaning source.old) (length lines.old) (ForAssigned pass) call.now).state }
+    ensures source { S.meaning source.new ≡ (answer book.old.state (S.meaning source.old) (length lines.old) (ForAssigned pass) call.now).source }
     ensures lines { lines.new ≡ written lines.old 0 (answer book.old.state (S.meaning source.old) (length lines.old) (ForAssigned pass) call.now).lines }
 {
     match call {
@@ -156,7 +166,10 @@ fn dispatch<S: Draws>(
     pass: Pass,
     call: &Call,
 ) -> Done
-    ensures done { after_of result book.new (S.meaning source.new) (answer book.old.state (S.meaning source.old) (length lines.old) pass call.now).lines ≡ answer book.old.state (S.meaning source.old) (length lines.old) pass call.now }
+    ensures reply { result.reply ≡ (answer book.old.state (S.meaning source.old) (length lines.old) pass call.now).reply }
+    ensures pass { result.pass ≡ (answer book.old.state (S.meaning source.old) (length lines.old) pass call.now).pass }
+    ensures book { book.new.state ≡ (answer book.old.state (S.meaning source.old) (length lines.old) pass call.now).state }
+    ensures source { S.meaning source.new ≡ (answer book.old.state (S.meaning source.old) (length lines.old) pass call.now).source }
     ensures lines { lines.new ≡ written lines.old 0 (answer book.old.state (S.meaning source.old) (length lines.old) pass call.now).lines }
 {
     match pass {
@@ -176,10 +189,14 @@ pub fn perform<S: Draws>(
     pass: Pass,
     call: &Call,
 ) -> Done
-    ensures done { after_of result book.new (S.meaning source.new) (answer book.old.state (S.meaning source.old) (length lines.old) pass call.now).lines ≡ answer book.old.state (S.meaning source.old) (length lines.old) pass call.now }
+    ensures reply { result.reply ≡ (answer book.old.state (S.meaning source.old) (length lines.old) pass call.now).reply }
+    ensures number { replied reply_of result.reply ≡ replied reply_of (answer book.old.state (S.meaning source.old) (length lines.old) pass call.now).reply }
+    ensures pass { result.pass ≡ (answer book.old.state (S.meaning source.old) (length lines.old) pass call.now).pass }
+    ensures book { book.new.state ≡ (answer book.old.state (S.meaning source.old) (length lines.old) pass call.now).state }
+    ensures source { S.meaning source.new ≡ (answer book.old.state (S.meaning source.old) (length lines.old) pass call.now).source }
     ensures lines { lines.new ≡ written lines.old 0 (answer book.old.state (S.meaning source.old) (length lines.old) pass call.now).lines }
     ensures register { (o : Opening) (g : List Entry) → Leads o g book.old.state → Leads o (entry pass call.now (S.meaning source.old) (S.meaning source.new) (length lines.old) (answer book.old.state (S.meaning source.old) (length lines.old) pass call.now).lines result.reply ∷ g) book.new.state }
-    ensures brief { Brief (replied result.reply) }
+    ensures brief { Brief (replied reply_of result.reply) }
     ensures fits { AllByRecursion Fits (answer book.old.state (S.meaning source.old) (length lines.old) pass call.now).lines }
     ensures law { Law }
     ensures examples { Examples }

@@ -1,6 +1,9 @@
-use Rattle.std.proofs.Common.{length, sym, ap, ◌∙◌, subst}
+use Rattle.std.proofs.Common.{Result, ℕ, length, sym, ap, ◌∙◌, subst}
+use Rattle.draws.specs.Replies.{replied}
+use Rattle.ledger.specs.declared.refusal.Refusal.{Refusal}
 use Rattle.ledger.specs.declared.state.State.{State}
-use Rattle.register.specs.Register.{After, answer, replied, Brief}
+use Rattle.ledger.specs.Replies.{reply_of}
+use Rattle.register.specs.Register.{answer, Brief}
 use Rattle.ledger.proofs.FactLaws.{facts}
 use Rattle.register.proofs.BriefLaws.{answer_brief}
 use Rattle.register.proofs.FitLaws.{answer_fits}
@@ -14,25 +17,30 @@ returns g c =
     let p = c.args.pass in
     let q = c.args.call.now in
     let n = length c.args.lines.now in
-    let e = c.dispatch.ensures.done in
+    let e = c.dispatch.ensures in
     let s = c.args.book.now.state in
-    let P : After → Type 0 = λ a. Brief (replied a.reply) in
+    let P : Result ℕ Refusal → Type 0 = λ a. Brief (replied reply_of a) in
+    let number = ap (λ (a : Result ℕ Refusal). replied reply_of a) e.reply in
     record {
-      done = e;
-      lines = c.dispatch.ensures.lines;
+      reply = e.reply;
+      number = number;
+      pass = e.pass;
+      book = e.book;
+      source = e.source;
+      lines = e.lines;
       register = λ o r l. record {
         replies = (
           record {
-            reply = ap (λ (a : After). replied a.reply) e ∙ ap (λ (s : State). replied (answer s m n p q).reply) l.shows;
-            after = ap (λ (a : After). a.source) e ∙ ap (λ (s : State). (answer s m n p q).source) l.shows;
+            reply = number ∙ ap (λ (s : State). replied reply_of (answer s m n p q).reply) l.shows;
+            after = e.source ∙ ap (λ (s : State). (answer s m n p q).source) l.shows;
             lines = ap (λ (s : State). (answer s m n p q).lines) l.shows;
             below = g.S.Draws.below c.args.source.now;
           },
           l.replies,
         );
-        shows = ap (λ (a : After). a.state) e ∙ ap (λ (s : State). (answer s m n p q).state) l.shows;
+        shows = e.book ∙ ap (λ (s : State). (answer s m n p q).state) l.shows;
       };
-      brief = subst P (sym e) (answer_brief s (facts s c.args.book.now.sound) m n p q);
+      brief = subst P (sym e.reply) (answer_brief s (facts s c.args.book.now.sound) m n p q);
       fits = answer_fits s (facts s c.args.book.now.sound) m n p q;
       law = law;
       examples = examples;
