@@ -1,11 +1,11 @@
 -- Filled lines made from the bytes of their input lines.
 use Rattle.std.proofs.Common.{◌≡◌, ℕ, ◌-◌, ◌≤◌, List, [], ◌∷◌, ◌++◌, length, take, decimal, sym, refl, ap, ◌∙◌, append_assoc, arith}
 use Rattle.std.proofs.lemmas.List.{length-append, take_all, take_at}
-use Rattle.grammar.specs.Kinds.{Short}
-use Rattle.lines.specs.Lines.{before_feed, fields_text, answer_text, filled_line, InputLine, FilledLine}
+use Rattle.lines.specs.Kinds.{Short}
+use Rattle.lines.specs.Lines.{before_feed, fields_text, answer_text, filled_line, faulty_line, InputLine, FilledLine, FaultyLine}
 use Rattle.lines.specs.Texts.{cut}
 use Rattle.lines.proofs.Lengths.{filled_length}
-use Rattle.grammar.proofs.Tables.{known_filled}
+use Rattle.lines.proofs.Tables.{known_filled}
 
 -- a filled line has room
 fits : (k : ℕ) (ns : List ℕ) (a b : ℕ) → FilledLine k ns a b (filled_line k ns a b) → FilledLine k ns a b (cut (filled_line k ns a b))
@@ -27,5 +27,5 @@ fills k ns w a b h ra rb =
     let same = ap (λ t. cut (t ++ answer_text a b)) (before k ns w h) ∙ ap cut (append_assoc (decimal k) (fields_text ns) (answer_text a b)) in
     record { known = line.known; short = line.short; reply_short = ra; result_short = rb; is = same ∙ line.is }
 
-pub fills_faulty : (n : ℕ) → n ≤ 66 → FilledLine 99 [] 2 n (cut (filled_line 99 [] 2 n))
+pub fills_faulty : (n : ℕ) → n ≤ 66 → FaultyLine n (cut (faulty_line n))
 fills_faulty n l = fits 99 [] 2 n (record { known = refl; short = tt; reply_short = omega arith; result_short = omega arith; is = refl })

@@ -3,11 +3,11 @@ use Rattle.std.proofs.Common.{ℕ, ◌*◌, ◌≤◌, List, [], ◌∷◌, ◌+
 use Rattle.std.specs.List.{AllByRecursion}
 use Rattle.std.proofs.lemmas.List.{length-append, length-take-le}
 use Rattle.std.proofs.lemmas.Fmt.{length-decimal-le}
-use Rattle.grammar.specs.Kinds.{Short}
+use Rattle.lines.specs.Kinds.{Short}
 use Rattle.lines.specs.Lines.{fields_text, answer_text, InputLine, FilledLine, IsInput, IsFilled, LongestStart}
-use Rattle.grammar.specs.Grammar.{Wide}
-use Rattle.grammar.proofs.Steps.{short_fits}
-use Rattle.grammar.proofs.Tables.{input_table, filled_table}
+use Rattle.lines.specs.Grammar.{Wide}
+use Rattle.lines.proofs.Steps.{short_fits}
+use Rattle.lines.proofs.Tables.{input_table, filled_table}
 
 pub len_number : (d n : ℕ) → Wide d → Short d n → length (decimal n) ≤ d
 len_number d n w s = length-decimal-le d n w.0 s (short_fits d n w s)

@@ -1,4 +1,13 @@
+pub mod Steps
+pub mod Heads
+pub mod Rows
+pub mod Tables
+pub mod Maps
+pub mod Tens
+pub mod Cuts
 pub mod Tops
 pub mod Lengths
 pub mod Made
 pub mod Filling
+pub mod Statements
+pub mod Rewriting

@@ -1,17 +1,10 @@
 -- Lines that are put together from their parts.
-use Rattle.std.proofs.Common.{◌≡◌, ℕ, ◌<◌, ◌≤◌, Bool, true, false, MatchBool, Decides, List, [], ◌∷◌, ◌++◌, map, length, Some, decimal, sym, refl, ap, ◌∙◌, append_assoc, arith}
-use Rattle.std.specs.Str.Parse.{digits_value}
-use Rattle.std.specs.List.{flat_map, AllByRecursion, AllWithin, HoldsAt}
-use Rattle.std.proofs.lemmas.List.{length-map}
-use Rattle.std.proofs.lemmas.Bool.{false≢true}
-use Rattle.std.proofs.lemmas.List.Elements.{recursion_from_All, All-from_recursion}
-use Rattle.grammar.specs.Kinds.{arity, kinds, filled_kinds, Short, IsNumber}
-use Rattle.grammar.specs.Grammar.{blanked}
-use Rattle.grammar.proofs.Values.{numbers_text, numbers_short}
+use Rattle.std.proofs.Common.{◌≡◌, ℕ, ◌≤◌, List, [], ◌∷◌, ◌++◌, length, Some, decimal, refl, ap, ◌∙◌, append_assoc, arith}
+use Rattle.std.specs.List.{AllByRecursion}
+use Rattle.lines.specs.Kinds.{arity, kinds, filled_kinds, Short}
 use Rattle.lines.specs.Lines.{fields_text, answer_text, InputLine, FilledLine}
-use Rattle.lines.specs.Reads.{FieldsFilled}
 use Rattle.lines.specs.Texts.{cut}
-use Rattle.parts.proofs.Cuts.{cut_more, cut_none, cut_all}
+use Rattle.lines.proofs.Cuts.{cut_more, cut_none, cut_all}
 use Rattle.lines.proofs.Lengths.{input_length, filled_length}
 
 -- the kind, after nothing, and then the fields
@@ -34,15 +27,3 @@ pub filled_made : (k : ℕ) (ns : List ℕ) (a b : ℕ) (t u : List ℕ) → ari
 filled_made k ns a b t u known short answer e f =
     let l = filled_length k ns a b (decimal k ++ (fields_text ns ++ answer_text a b)) (record { known = known; short = short; reply_short = answer.0; result_short = answer.1; is = refl }) in
     record { known = known; short = short; reply_short = answer.0; result_short = answer.1; is = ended k t u (fields_text ns) (answer_text a b) (omega arith) e f }
-
-pub fields_made : (k : ℕ) (ts : List (List ℕ)) (a b : ℕ) (t u : List ℕ) → arity filled_kinds k ≡ Some (length ts) → AllByRecursion (IsNumber 8) ts → Short 8 a × Short 8 b → t ≡ cut (decimal k ++ flat_map blanked ts) → u ≡ cut (t ++ answer_text a b) → FieldsFilled k ts a b u
-fields_made k ts a b t u known digits answer e f =
-    record {
-      digits = digits;
-      is = filled_made k (map (digits_value 10) ts) a b t u (known ∙ ap Some (sym (length-map ts (digits_value 10)))) (numbers_short ts digits) answer (e ∙ ap (λ l. cut (decimal k ++ l)) (numbers_text ts digits)) f;
-    }
-
--- a test of each element, from where it ends
-pub decides_all : {X : Type 0} (P : X → Type 0) (xs : List X) (d : X) (r : Bool) → MatchBool r (AllWithin P xs 0 (length xs)) ((k : ℕ) × (k < length xs) × HoldsAt (λ x. P x → ⊥) xs k) → Decides r (AllByRecursion P xs)
-decides_all P xs d true h = (λ e. recursion_from_All P xs (λ k x l. h k x (omega arith) l), λ g. refl)
-decides_all P xs d false h = (λ e. absurd (false≢true e), λ g. absurd (h.2 d (All-from_recursion P xs g h.0 d h.1)))

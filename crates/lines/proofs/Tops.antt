@@ -1,20 +1,20 @@
 -- Whole lines: from a scan to what was written.
-use Rattle.std.proofs.Common.{◌≡◌, ℕ, zero, suc, ◌+◌, ◌-◌, ◌<◌, ◌≤◌, min, List, [], ◌∷◌, ◌++◌, map, length, take, drop, Some, Ok, Err, decimal, Result, MatchResult, IsErrAnd, sym, refl, ap, ◌∙◌, subst, append_assoc, append-nil, arith, Bor}
+use Rattle.std.proofs.Common.{◌≡◌, ℕ, zero, suc, ◌+◌, ◌-◌, ◌<◌, ◌≤◌, min, List, [], ◌∷◌, ◌++◌, map, length, take, drop, Some, None, Option, Ok, Err, decimal, Result, MatchResult, IsErrAnd, sym, refl, ap, ◌∙◌, subst, append_assoc, append-nil, arith, Bor}
 use Rattle.std.specs.List.{AllByRecursion}
-use Rattle.std.proofs.lemmas.List.{take_at, take-append-drop, length-append, length-map, same_from_push}
-use Rattle.grammar.specs.declared.kinds.Sort.{Sort}
-use Rattle.grammar.specs.declared.kinds.Sort.TheVariants.{Input, Filled}
-use Rattle.grammar.specs.Kinds.{arity, kinds, filled_kinds, kinds_of, Short}
+use Rattle.std.proofs.lemmas.List.{take_at, take-append-drop, length-append, length-map, same_from_push, nil_from_length}
+use Rattle.lines.specs.declared.kinds.Sort.{Sort}
+use Rattle.lines.specs.declared.kinds.Sort.TheVariants.{Input, Filled}
+use Rattle.lines.specs.Kinds.{arity, kinds, filled_kinds, kinds_of, Short}
 use Rattle.lines.specs.Lines.{fields_text, InputLine, FilledLine, IsInput, IsFilled, LongestStart}
-use Rattle.grammar.specs.Grammar.{Piece, Delim, Writes, shape, feed, answer, Lines, first, Reached, Stuck, StartRead, Done, AnswerRead}
-use Rattle.parts.specs.declared.line.Line.{Line}
-use Rattle.parts.specs.Parts.{kind_of, parts_of, numbers_of}
-use Rattle.lines.specs.Reads.{ReadsInput, ReadsNumbers, reply_of, result_of, ReadsFilled}
-use Rattle.parts.specs.declared.line.Filled as read
+use Rattle.lines.specs.Grammar.{Piece, Writes, shape, feed, answer, Lines, first, Stuck, StartRead, Done, AnswerRead}
+use Rattle.lines.specs.declared.line.Line.{Line}
+use Rattle.lines.specs.Parts.{kind_of, parts_of, numbers_of, kind_in, parts_in, numbers_in, Made}
+use Rattle.lines.specs.Reads.{ReadsInput, reply_of, result_of, ReadsFilled}
+use Rattle.lines.specs.declared.line.Filled as read
 use Rattle.lines.specs.declared.read.Faulty.{Faulty}
-use Rattle.parts.proofs.Cuts.{take_past}
-use Rattle.grammar.proofs.Tables.{known_filled}
-use Rattle.grammar.proofs.Steps.{done_after, not_digit_10, answer_delim}
+use Rattle.lines.proofs.Cuts.{take_past}
+use Rattle.lines.proofs.Tables.{known_filled, known_input, only_faulty, line_known}
+use Rattle.lines.proofs.Steps.{done_after, not_digit_10, answer_delim}
 
 -- fields and what follows them
 pub writes_to : (d : ℕ) (ns ms : List ℕ) (t : List Piece) (v : List ℕ) → AllByRecursion (Short d) ns → Writes t ms v → Writes (shape d (length ns) t) (ns ++ ms) (fields_text ns ++ v)
@@ -121,22 +121,32 @@ known_of Input k n e = known_filled k n e
 known_of Filled k n e = e
 
 -- what `line_of` makes of the fields that were read
-pub start_made : (s : Sort) (w : List ℕ) (k f : ℕ) (out : List (Bor (List ℕ))) (rest : List ℕ) (l : Line) → StartRead (kinds_of s) w k (map (λ d. d.now) (take f out)) rest → ((n : ℕ) → arity filled_kinds k ≡ Some n → (kind_of l ≡ k) × (parts_of l ≡ map (λ d. d.now) (take n out))) → StartRead (kinds_of s) w (kind_of l) (parts_of l) rest
-start_made s w k f out rest l start made =
-    let p = made (length (map (λ d. d.now) (take f out))) (known_of s k _ start.known) in
-    let n : length (map (λ d. d.now) (take f out)) ≡ length (take f out) = length-map (take f out) (λ d. d.now) in
-    let parts : parts_of l ≡ map (λ d. d.now) (take f out) = p.1 ∙ ap (λ x. map (λ d. d.now) (take x out)) n ∙ ap (map (λ d. d.now)) (take_own f out) in
-    rw (p.0, parts) start
+pub start_made : (s : Sort) (w : List ℕ) (k f : ℕ) (out : List (Bor (List ℕ))) (rest : List ℕ) (o : Option Line) → StartRead (kinds_of s) w k (map (λ d. d.now) (take f out)) rest → Made k out o → StartRead (kinds_of s) w (kind_in o) (parts_in o) rest
+start_made s w k f out rest None start made =
+    let p = only_faulty k _ made (known_of s k _ start.known) in
+    let none : map (λ d. d.now) (take f out) ≡ [] = nil_from_length _ p.1 in
+    subst (λ j. StartRead (kinds_of s) w j [] rest) p.0 (subst (λ t. StartRead (kinds_of s) w k t rest) none start)
+start_made s w k f out rest (Some l) start made =
+    let known : arity kinds k ≡ Some (length (parts_of l)) = ap (arity kinds) (sym made.0) ∙ line_known l in
+    let n = known_input k _ _ known (known_of s k _ start.known) ∙ length-map (take f out) (λ d. d.now) in
+    let parts : parts_of l ≡ map (λ d. d.now) (take f out) = made.1 _ known ∙ ap (λ x. map (λ d. d.now) (take x out)) n ∙ ap (map (λ d. d.now)) (take_own f out) in
+    rw (made.0, parts) start
 
--- a kind and numbers that are read to the line's end
-pub numbers_read : (w front rest : List ℕ) (k : ℕ) (ns : List ℕ) → w ≡ front ++ rest → ((t : List Piece) → Delim t → Reached (Lines kinds t) (Writes t) front (k ∷ ns) rest) → Done (Writes feed) rest [] → ReadsNumbers w k ns
-numbers_read w front rest k ns split reached end =
-    let all : Done (Lines kinds feed) w ((k ∷ ns) ++ []) = rw split (done_after _ _ _ _ rest [] (reached feed not_digit_10) end) in
+-- an input line is none of kind 99
+pub input_some : (w rest : List ℕ) → StartRead kinds w 99 [] rest → ⊥
+input_some w rest start = let e : ◌≡◌ {A = Option ℕ} None (Some 0) = start.known in let y : ◌≡◌ {A = ℕ} 0 1 = cc e in omega arith
+
+pub input_read : (w : List ℕ) (rest : List ℕ) (l : Line) → StartRead kinds w (kind_of l) (parts_of l) rest → Done (Writes feed) rest [] → ReadsInput w l
+input_read w rest l start end =
+    let k = kind_of l in
+    let ns = numbers_of l in
+    let all : Done (Lines kinds feed) w ((k ∷ ns) ++ []) = rw start.split (done_after _ _ _ _ rest [] (start.reached feed not_digit_10) end) in
     let p = input_from _ w all.is in
     let e : ◌≡◌ {A = List ℕ} (k ∷ ns) (p.0 ∷ p.1) = sym (append-nil (k ∷ ns)) ∙ p.2 in
     let ek : p.0 ≡ k = cc e in
     let en : p.1 ≡ ns = cc e in
     record {
+      digits = start.numbers;
       is = subst (λ x. InputLine x ns w) ek (subst (λ x. InputLine p.0 x w) en p.3);
       only = λ j ms h.
           let o = all.only (j ∷ ms) (input_to j ms w h) ∙ p.2 in
@@ -144,11 +154,6 @@ numbers_read w front rest k ns split reached end =
           let on : ms ≡ p.1 = cc o in
           (ok ∙ ek, on ∙ en);
     }
-
-pub input_read : (w : List ℕ) (rest : List ℕ) (l : Line) → StartRead kinds w (kind_of l) (parts_of l) rest → Done (Writes feed) rest [] → ReadsInput w l
-input_read w rest l start end =
-    let r = numbers_read w _ rest (kind_of l) (numbers_of l) start.split start.reached end in
-    record { digits = start.numbers; is = r.is; only = r.only }
 
 head_same : (x y : ℕ) (xs ys : List ℕ) → ◌≡◌ {A = List ℕ} (x ∷ xs) (y ∷ ys) → x ≡ y
 head_same x y xs ys e = cc e
@@ -162,18 +167,18 @@ same_two xs ys a b a' b' e =
     let q = same_from_push xs ys a a' p.0 in
     (q.0, q.1, p.1)
 
-pub filled_read : (w : List ℕ) (rest : List ℕ) (f : read.Filled) → StartRead filled_kinds w (kind_of f.line) (parts_of f.line) rest → AnswerRead rest f.reply.now f.result.now → ReadsFilled w f
+pub filled_read : (w : List ℕ) (rest : List ℕ) (f : read.Filled) → StartRead filled_kinds w (kind_in f.line) (parts_in f.line) rest → AnswerRead rest f.reply.now f.result.now → ReadsFilled w f
 filled_read w rest f start end =
-    let all : Done (Lines filled_kinds answer) w ((kind_of f.line ∷ numbers_of f.line) ++ (reply_of f ∷ result_of f ∷ [])) = rw start.split (done_after _ _ _ _ rest _ (start.reached answer answer_delim) end.done) in
-    let p = filled_from ((kind_of f.line ∷ numbers_of f.line) ++ (reply_of f ∷ result_of f ∷ [])) w all.is in
+    let all : Done (Lines filled_kinds answer) w ((kind_in f.line ∷ numbers_in f.line) ++ (reply_of f ∷ result_of f ∷ [])) = rw start.split (done_after _ _ _ _ rest _ (start.reached answer answer_delim) end.done) in
+    let p = filled_from ((kind_in f.line ∷ numbers_in f.line) ++ (reply_of f ∷ result_of f ∷ [])) w all.is in
     let e = p.4 in
-    let ek : p.0 ≡ kind_of f.line = sym (head_same _ _ _ _ e) in
-    let tl : numbers_of f.line ++ (reply_of f ∷ result_of f ∷ []) ≡ p.1 ++ (p.2 ∷ p.3 ∷ []) = tail_same _ _ _ _ e in
-    let q = same_two (numbers_of f.line) p.1 _ _ _ _ tl in
+    let ek : p.0 ≡ kind_in f.line = sym (head_same _ _ _ _ e) in
+    let tl : numbers_in f.line ++ (reply_of f ∷ result_of f ∷ []) ≡ p.1 ++ (p.2 ∷ p.3 ∷ []) = tail_same _ _ _ _ e in
+    let q = same_two (numbers_in f.line) p.1 _ _ _ _ tl in
     record {
       digits = start.numbers;
       answer_digits = end.numbers;
-      is = subst (λ x. FilledLine x (numbers_of f.line) (reply_of f) (result_of f) w) ek (subst (λ x. FilledLine p.0 x (reply_of f) (result_of f) w) (sym q.0) (subst (λ x. FilledLine p.0 p.1 x (result_of f) w) (sym q.1) (subst (λ x. FilledLine p.0 p.1 p.2 x w) (sym q.2) p.5)));
+      is = subst (λ x. FilledLine x (numbers_in f.line) (reply_of f) (result_of f) w) ek (subst (λ x. FilledLine p.0 x (reply_of f) (result_of f) w) (sym q.0) (subst (λ x. FilledLine p.0 p.1 x (result_of f) w) (sym q.1) (subst (λ x. FilledLine p.0 p.1 p.2 x w) (sym q.2) p.5)));
       only = λ k' ns a b h.
           let o = all.only _ (filled_to k' ns a b w h) ∙ e in
           let ok : k' ≡ p.0 = head_same _ _ _ _ o in

@@ -1,3 +1,9 @@
+pub mod Kinds
+pub mod Grammar
+pub mod Parts
+pub mod Lists
 pub mod Lines
 pub mod Reads
 pub mod Texts
+pub mod Statements
+pub mod Rewrites

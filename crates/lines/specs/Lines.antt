@@ -1,12 +1,12 @@
 -- Archive lines and statement lines, as they are written.
 use Rattle.std.specs.Prelude.{◌≡◌, ℕ, ◌-◌, ◌<◌, ◌≤◌, List, [], ◌∷◌, ◌++◌, length, take, Some, decimal}
-use Rattle.std.specs.List.{AllByRecursion}
-use Rattle.grammar.specs.Kinds.{arity, kinds, filled_kinds, Short}
-use Rattle.grammar.specs.Grammar.{numbered}
+use Rattle.std.specs.List.{flat_map, AllByRecursion}
+use Rattle.draws.specs.declared.Reply.{Reply}
+use Rattle.lines.specs.Kinds.{arity, kinds, filled_kinds, Short}
 
 -- each number after a blank
 abbrev pub fields_text : List ℕ → List ℕ
-fields_text ns = numbered ns
+fields_text ns = flat_map (λ n. 32 ∷ decimal n) ns
 
 -- ` : `, reply, blank, result, line feed
 abbrev pub answer_text : ℕ → ℕ → List ℕ
@@ -21,6 +21,14 @@ input_line k ns = decimal k ++ (fields_text ns ++ (10 ∷ []))
 
 abbrev pub filled_line : ℕ → List ℕ → ℕ → ℕ → List ℕ
 filled_line k ns reply result = decimal k ++ (fields_text ns ++ answer_text reply result)
+
+-- the reply to a faulty line whose longest start has n bytes
+abbrev pub faulty : ℕ → Reply
+faulty n = record { number = 2; result = n }
+
+-- and its filled line: kind 99 without numbers
+abbrev pub faulty_line : ℕ → List ℕ
+faulty_line n = filled_line 99 [] (faulty n).number (faulty n).result
 
 -- numbers with one blank between, and a line feed
 abbrev pub statement_line : List ℕ → List ℕ
@@ -39,6 +47,10 @@ pub record FilledLine (k : ℕ) (ns : List ℕ) (reply result : ℕ) (w : List �
   pub reply_short : Short 8 reply
   pub result_short : Short 8 result
   pub is : w ≡ filled_line k ns reply result
+
+-- w is the filled line of a faulty line whose longest start has n bytes
+abbrev pub FaultyLine : ℕ → List ℕ → Type 0
+FaultyLine n = FilledLine 99 [] (faulty n).number (faulty n).result
 
 -- w is the writing of the ten numbers ns of a statement line
 pub record StatementText (ns : List ℕ) (w : List ℕ) : Type 0 where

@@ -1,16 +1,24 @@
-// Input lines and filled lines, read and written.
+// Archive lines and statement lines: read from left to right, and written exactly.
 #![tactic(auto)]
 
+mod again;
+mod kinds;
+mod line;
 mod numbers;
+mod numerals;
 mod read;
+mod scan;
+mod statement;
+mod ten;
 mod text;
 mod write;
 
-pub use grammar::{Row, find, number};
-pub use numbers::{Number, all_below, push_numbers};
-pub use parts::{Filled, Line, Numbers};
-pub use read::{Faulty, read_filled, read_input, read_numbers};
+pub use again::{Rewritten, rewrite};
+pub use kinds::{Row, Sort, find};
+pub use line::{Filled, Line};
+pub use numbers::Numbers;
+pub use read::{Faulty, read_filled, read_input};
+pub use scan::number;
+pub use statement::{StatementLine, read_statement, write_statement};
 pub use text::Text;
-pub use write::{
-    fill, fill_faulty, write_faulty, write_filled, write_input_numbers, write_numbers,
-};
+pub use write::{fill, fill_faulty};

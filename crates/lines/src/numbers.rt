@@ -1,55 +1,74 @@
-// The numbers of a line, of either width.
-ghost use Rattle.std.specs.Prelude.{◌≡◌, ℕ, ◌<◌, ◌∷◌, ◌++◌, decimal, Decides};
-ghost use Rattle.std.specs.List.{flat_map, AllByRecursion};
-ghost use Rattle.lines.specs.Texts.{text_of, cut};
+// The numbers of a line, in a fixed place.
+ghost use Rattle.std.specs.Prelude.{◌≡◌, [], ◌∷◌, ◌++◌, map, MatchOption};
+ghost use Rattle.std.specs.Str.Parse.{digits_value};
+ghost use Rattle.std.specs.List.{AllByRecursion};
+ghost use Rattle.lines.specs.Kinds.{IsNumber};
+ghost use Rattle.lines.specs.Parts.{parts_of, numbers_of, parts_in, numbers_in};
+ghost use Rattle.lines.specs.Lists.{nine, list_of};
 
-use super::text::Text;
+use super::line::{Filled, Line, fields_in};
+use super::scan::number;
+use few::Few;
 
-// A number of an archive line, or of a statement line.
-pub trait Number: Copy {
-    ghost value: { Self → ℕ };
-
-    fn value(self) -> u64
-        ensures { result ≡ value self };
+// At most 9 numbers: seven fields, and of a filled line reply and result.
+// Kept: a Few of its own type, since it leaves out in silence what has no room, where Few answers Full.
+#[derive(Clone, Copy)]
+pub struct Numbers {
+    values: Few<u32, 9>,
 }
 
-impl Number for u32 {
-    ghost value = { λ n. n };
+impl Numbers {
+    pub(crate) fn new() -> Numbers
+        ensures { list_of result ≡ [] }
+    {
+        Numbers {
+            values: Few::new(0),
+        }
+    }
 
-    fn value(self) -> u64 {
-        u64::from(self)
+    pub fn as_slice(&self) -> &[u32]
+        ensures { result.now ≡ list_of self.now }
+    {
+        self.values.as_slice()
+    }
+
+    // Appends a number, if there is room.
+    pub(crate) fn push(&mut self, n: u32)
+        ensures { list_of self.new ≡ nine (list_of self.old ++ (n ∷ [])) }
+    {
+        let _ = self.values.push(n);
     }
 }
 
-impl Number for u64 {
-    ghost value = { λ n. n };
+// The numbers of some fields; none where one is no number of a line.
+fn values(fields: &[&[u8]]) -> Option<Numbers>
+    ensures { MatchOption result (AllByRecursion (IsNumber 8) (map (λ f. f.now) fields.now) → ⊥) (λ n. AllByRecursion (IsNumber 8) (map (λ f. f.now) fields.now) × (list_of n ≡ nine (map (digits_value 10) (map (λ f. f.now) fields.now)))) }
+{
+    let mut numbers = Numbers::new();
+    for f in fields {
+        numbers.push(number(*f)?);
+    }
+    Some(numbers)
+}
 
-    fn value(self) -> u64 {
-        self
+impl Line<'_> {
+    // The numbers of the line's fields; none where one is no number of a line.
+    pub(crate) fn numbers(&self) -> Option<Numbers>
+        ensures { MatchOption result (AllByRecursion (IsNumber 8) (parts_of self.now) → ⊥) (λ n. AllByRecursion (IsNumber 8) (parts_of self.now) × (list_of n ≡ numbers_of self.now)) }
+    {
+        let mut out: [&[u8]; 7] = [&[]; 7];
+        values(fields_in(self, &mut out))
     }
 }
 
-// Whether all numbers are below a limit.
-pub fn all_below<N: Number>(numbers: &[N], limit: u64) -> bool
-    ensures { Decides result (AllByRecursion (λ n. N.value n < limit) numbers.now) }
-{
-    numbers.iter().all(|n| n.value() < limit)
-}
-
-// Appends a blank and a number.
-#[tactic(auto, using(crate::proofs::Made::one_before))]
-fn push_field(text: &mut Text, n: u64)
-    ensures { text_of text.new ≡ cut (text_of text.old ++ (32 ∷ decimal n)) }
-{
-    text.push(b' ');
-    text.push_number(n);
-}
-
-// Appends each number after a blank.
-pub fn push_numbers<N: Number>(text: &mut Text, numbers: &[N])
-    ensures { text_of text.new ≡ cut (text_of text.old ++ flat_map (λ n. 32 ∷ decimal (N.value n)) numbers.now) }
-{
-    for n in numbers {
-        push_field(text, n.value());
+impl Filled<'_> {
+    // The numbers of the line's fields, as of an input line.
+    pub(crate) fn numbers(&self) -> Option<Numbers>
+        ensures { MatchOption result (AllByRecursion (IsNumber 8) (parts_in self.now.line) → ⊥) (λ n. AllByRecursion (IsNumber 8) (parts_in self.now.line) × (list_of n ≡ numbers_in self.now.line)) }
+    {
+        match &self.line {
+            Some(line) => line.numbers(),
+            None => Some(Numbers::new()),
+        }
     }
 }

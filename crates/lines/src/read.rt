@@ -1,14 +1,15 @@
 // Reading input lines and filled lines.
 ghost use Rattle.std.specs.Prelude.{◌≡◌, ◌-◌, ◌≤◌, min, List, length, MatchResult};
-ghost use Rattle.grammar.specs.Kinds.{kinds_of, kinds, filled_kinds};
-ghost use Rattle.grammar.specs.Grammar.{Piece, Delim, Writes, StartRead, AnswerRead, Stuck, Lines, feed, answer};
-ghost use Rattle.parts.specs.Parts.{kind_of, parts_of};
+ghost use Rattle.lines.specs.Kinds.{kinds_of, kinds, filled_kinds};
+ghost use Rattle.lines.specs.Grammar.{Piece, Delim, Writes, StartRead, AnswerRead, Stuck, Lines, feed, answer};
+ghost use Rattle.lines.specs.Parts.{kind_in, parts_in};
 ghost use Rattle.lines.specs.Lines.{IsInput, IsFilled, LongestStart};
-ghost use Rattle.lines.specs.Reads.{ReadsInput, ReadsNumbers, ReadsFilled};
+ghost use Rattle.lines.specs.Reads.{ReadsInput, ReadsFilled};
 
+use super::kinds::Sort;
+use super::line::{Filled, Line, line_of};
+use super::scan::{read_answer, read_feed, read_start};
 use super::text::LONGEST;
-use grammar::{Sort, read_answer, read_feed, read_start};
-use parts::{Filled, Line, line_of};
 
 // Bytes that are no line of the sort read, by the length of their longest start that begins one.
 #[derive(Clone, Copy, PartialEq, Eq, Debug)]
@@ -19,7 +20,7 @@ pub struct Faulty {
 impl Faulty {
     // The fault in a line where so many bytes were left.
     // Kept: it is made of two things, so this is no From; `left` is a length, as the fault is.
-    pub fn of(line: &[u8], left: usize) -> Faulty
+    pub(crate) fn of(line: &[u8], left: usize) -> Faulty
         ensures { result.start ≡ min (length line.now - left) 170 }
     {
         Faulty {
@@ -30,8 +31,8 @@ impl Faulty {
 
 // The kind and the fields at the start of a line of a sort, and what follows them.
 // Kept: fields, a line and its sort, as `read_start` has them.
-fn line_start<'a>(line: &'a [u8], sort: Sort) -> Result<(Line<'a>, &'a [u8]), usize>
-    ensures { MatchResult result (λ p. StartRead (kinds_of sort) line.now (kind_of p.0) (parts_of p.0) p.1.now) (λ left. (t : List Piece) → Delim t → Stuck (Lines (kinds_of sort) t) line.now left) }
+fn line_start<'a>(line: &'a [u8], sort: Sort) -> Result<(Option<Line<'a>>, &'a [u8]), usize>
+    ensures { MatchResult result (λ p. StartRead (kinds_of sort) line.now (kind_in p.0) (parts_in p.0) p.1.now) (λ left. (t : List Piece) → Delim t → Stuck (Lines (kinds_of sort) t) line.now left) }
 {
     let mut out: [&'a [u8]; 7] = [&[]; 7];
     let head = read_start(line, sort, &mut out)?;
@@ -43,6 +44,7 @@ fn scan_input<'a>(line: &'a [u8]) -> Result<Line<'a>, usize>
     ensures { MatchResult result (λ l. ReadsInput line.now l) (λ left. Stuck (Lines kinds feed) line.now left) }
 {
     let (read, end) = line_start(line, Sort::Input)?;
+    let Some(read) = read else { unreachable() };
     read_feed(end)?;
     Ok(read)
 }
@@ -54,25 +56,8 @@ pub fn read_input<'a>(line: &'a [u8]) -> Result<Line<'a>, Faulty>
     scan_input(line).map_err(|left| Faulty::of(line, left))
 }
 
-// The kind and the numbers of an input line, in `out`.
-// Kept: as in `scan_input`.
-fn scan_numbers<'n>(line: &[u8], out: &'n mut [u32; 7]) -> Result<(u8, &'n [u32]), usize>
-    ensures { MatchResult result (λ p. ReadsNumbers line.now p.0 p.1.now) (λ left. Stuck (Lines kinds feed) line.now left) }
-{
-    let head = grammar::read_numbers(line, Sort::Input, out)?;
-    read_feed(head.rest)?;
-    Ok((head.kind, &out[..head.fields]))
-}
-
-// Reads the kind and the numbers of an input line: `out` is their place.
-pub fn read_numbers<'n>(line: &[u8], out: &'n mut [u32; 7]) -> Result<(u8, &'n [u32]), Faulty>
-    ensures { MatchResult result (λ p. ReadsNumbers line.now p.0 p.1.now) (λ f. LongestStart IsInput line.now f.start × (f.start ≤ 66)) }
-{
-    scan_numbers(line, out).map_err(|left| Faulty::of(line, left))
-}
-
 // A line that was read, with the answer that follows its fields.
-fn with_answer<'a>(line: Line<'a>, end: &'a [u8]) -> Result<Filled<'a>, usize>
+fn with_answer<'a>(line: Option<Line<'a>>, end: &'a [u8]) -> Result<Filled<'a>, usize>
     ensures { MatchResult result (λ f. (f.line ≡ line.entry) × AnswerRead end.now f.reply.now f.result.now) (λ left. Stuck (Writes answer) end.now left) }
 {
     let (reply, result) = read_answer(end)?;

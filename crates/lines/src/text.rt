@@ -36,7 +36,7 @@ impl Text {
     }
 
     // Appends a byte, if there is room.
-    pub fn push(&mut self, b: u8)
+    pub(crate) fn push(&mut self, b: u8)
         ensures { text_of self.new ≡ cut (text_of self.old ++ (b ∷ [])) }
     {
         let _ = self.bytes.push(b);
@@ -61,7 +61,7 @@ impl Text {
     }
 
     // Appends the writing of a number; most have one digit or two, which is done at once for speed.
-    pub fn push_number(&mut self, n: u64)
+    pub(crate) fn push_number(&mut self, n: u64)
         ensures { text_of self.new ≡ cut (text_of self.old ++ decimal n) }
     {
         if n < 10 {

@@ -1,19 +1,16 @@
 // Writing input lines and filled lines.
 // Kept: codes of kinds are numbers, since a number that is no kind of a line is answered with none.
 // Kept: fields of a line, its kind and its numbers: a struct of them would be made at each call and opened at once.
-ghost use Rattle.std.specs.Prelude.{◌≡◌, [], ◌++◌, map, length, Some, decimal, Decides};
-ghost use Rattle.std.specs.List.{flat_map, AllByRecursion};
-ghost use Rattle.grammar.specs.Kinds.{arity, filled_kinds, kinds_of, Short, IsNumber};
-ghost use Rattle.grammar.specs.Grammar.{blanked};
-ghost use Rattle.lines.specs.Lines.{before_feed, fields_text, answer_text, filled_line, InputLine, FilledLine};
-ghost use Rattle.lines.specs.Reads.{FilledOf, FieldsFilled};
+ghost use Rattle.std.specs.Prelude.{◌≡◌, ◌++◌, Some, decimal, Decides};
+ghost use Rattle.std.specs.List.{AllByRecursion};
+ghost use Rattle.lines.specs.Kinds.{arity, kinds_of, Short};
+ghost use Rattle.lines.specs.Lines.{before_feed, fields_text, answer_text, faulty, faulty_line, InputLine, FilledLine};
 ghost use Rattle.lines.specs.Texts.{text_of, cut, WrittenAs};
 
-use super::numbers::{all_below, push_numbers};
+use super::kinds::{Sort, fields_of, kinds_of};
+use super::numerals::{all_below, push_numbers};
 use super::text::Text;
 use draws::Reply;
-use grammar::{Sort, fields_of, kinds_of, number};
-use parts::{Line, fields_in};
 
 // A number of an archive line has at most 8 digits.
 const LIMIT: u64 = 100_000_000;
@@ -21,8 +18,7 @@ const LIMIT: u64 = 100_000_000;
 // The reply to a faulty input line, by the length of its longest start that begins a line.
 // Kept: reply 2 is of this crate alone; other replies come from the two Refusal enums.
 fn faulty_reply(length: u32) -> Reply
-    ensures number { result.number ≡ 2 }
-    ensures length { result.result ≡ length }
+    ensures { result ≡ faulty length }
 {
     Reply {
         number: 2,
@@ -49,23 +45,6 @@ fn is_known(sort: Sort, kind: u8, fields: usize) -> bool
     ensures { Decides result (arity (kinds_of sort) kind ≡ Some fields) }
 {
     fields_of(kinds_of(sort), kind) == Some(fields)
-}
-
-// Whether each field is the writing of a number of a line.
-fn are_numbers(fields: &[&[u8]]) -> bool
-    ensures { Decides result (AllByRecursion (IsNumber 8) (map (λ f. f.now) fields.now)) }
-{
-    fields.iter().all(|f| number(*f).is_some())
-}
-
-// Appends each field after a blank.
-fn push_fields(text: &mut Text, fields: &[&[u8]])
-    ensures { text_of text.new ≡ cut (text_of text.old ++ flat_map blanked (map (λ f. f.now) fields.now)) }
-{
-    for f in fields {
-        text.push(b' ');
-        text.push_all(*f);
-    }
 }
 
 // Appends ` : `, the reply's number, blank, its result and line feed.
@@ -114,7 +93,7 @@ fn faulty_kind() -> &'static [u8]
 
 // Makes the text the filled line of a faulty input line, by the length of its longest start that begins a line.
 pub fn fill_faulty(text: &mut Text, length: u32)
-    ensures { text_of text.new ≡ cut (filled_line 99 [] 2 length) }
+    ensures { text_of text.new ≡ cut (faulty_line length) }
 {
     fill_after(text, faulty_kind(), faulty_reply(length));
 }
@@ -131,7 +110,7 @@ fn start_text(kind: u8, numbers: &[u32]) -> Text
 
 // The input line of a kind with these numbers; none where there is no such line.
 // Kept: it ends in a line feed and judges no reply; what it shares with `write_numbers` is `start_text`.
-pub fn write_input_numbers(kind: u8, fields: &[u32]) -> Option<Text>
+pub(crate) fn write_input_numbers(kind: u8, fields: &[u32]) -> Option<Text>
     ensures { WrittenAs result (InputLine kind fields.now) }
 {
     if !is_known(Sort::Input, kind, fields.len()) || !are_short(fields) {
@@ -143,7 +122,7 @@ pub fn write_input_numbers(kind: u8, fields: &[u32]) -> Option<Text>
 }
 
 // The filled line of a kind with these numbers; none where there is no such line.
-pub fn write_numbers(kind: u8, fields: &[u32], reply: Reply) -> Option<Text>
+pub(crate) fn write_numbers(kind: u8, fields: &[u32], reply: Reply) -> Option<Text>
     ensures { WrittenAs result (FilledLine kind fields.now reply.number reply.result) }
 {
     if !is_known(Sort::Filled, kind, fields.len()) || !are_short(fields) || !is_short(reply) {
@@ -152,34 +131,4 @@ pub fn write_numbers(kind: u8, fields: &[u32], reply: Reply) -> Option<Text>
     let mut text = start_text(kind, fields);
     push_answer(&mut text, reply);
     Some(text)
-}
-
-// The filled line of a faulty input line, by the length of its longest start that begins a line.
-pub fn write_faulty(length: u32) -> Option<Text>
-    ensures { WrittenAs result (FilledLine 99 [] 2 length) }
-{
-    write_numbers(99, &[], faulty_reply(length))
-}
-
-// The filled line of a known kind with these fields, as they stand.
-fn filled_text(kind: u8, fields: &[&[u8]], reply: Reply) -> Option<Text>
-    requires { arity filled_kinds kind ≡ Some (length (map (λ f. f.now) fields.now)) }
-    ensures { WrittenAs result (FieldsFilled kind (map (λ f. f.now) fields.now) reply.number reply.result) }
-{
-    if !are_numbers(fields) || !is_short(reply) {
-        return None;
-    }
-    let mut text = Text::new();
-    text.push_number(u64::from(kind));
-    push_fields(&mut text, fields);
-    push_answer(&mut text, reply);
-    Some(text)
-}
-
-// The filled line of a read line, with its fields as they stand; none where one is no number of a line.
-pub fn write_filled(line: &Line<'_>, reply: Reply) -> Option<Text>
-    ensures { WrittenAs result (FilledOf line.now reply.number reply.result) }
-{
-    let mut out: [&[u8]; 7] = [&[]; 7];
-    filled_text(line.kind(), fields_in(line, &mut out), reply)
 }

@@ -1,6 +1,5 @@
 // Faulty lines, and the length of the longest start of each that begins a line of its sort.
-use lines::{read_filled, read_input};
-use statements::read_statement;
+use lines::{read_filled, read_input, read_statement};
 use std::test::Fail;
 
 struct Case {

@@ -1,10 +1,9 @@
 // Lines read and written.
 use draws::Reply;
 use lines::{
-    Line, Row, Text, fill, fill_faulty, find, number, read_filled, read_input, read_numbers,
-    write_faulty, write_filled, write_input_numbers, write_numbers,
+    Line, Row, Sort, StatementLine, Text, fill, fill_faulty, find, number, read_filled, read_input,
+    read_statement, rewrite, write_statement,
 };
-use statements::{Sort, StatementLine, read_statement, rewrite, write_statement};
 use std::test::Fail;
 
 const INPUT: [&[u8]; 22] = [
@@ -74,106 +73,62 @@ fn filled_again(rt: HostRuntime) -> Result<(), Fail> {
 
 #[test]
 fn trade(rt: HostRuntime) -> Result<(), Fail> {
-    let Ok(line) = read_input(b"13 1 2 3 4 5 6 1200\n") else {
-        return Err(Fail::new("no line"));
-    };
-    assert_eq!(rt; line.kind(), 13);
-    let Line::Trade {
-        buyer,
-        seller_effect,
-        price,
-        ..
-    } = line
+    let text: &[u8] = b"13 1 2 3 4 5 6 1200\n";
+    let Ok(
+        Line::Trade {
+            buyer,
+            seller_effect,
+            price,
+            ..
+        },
+    ) = read_input(text)
     else {
         return Err(Fail::new("another kind"));
     };
     assert_eq!(rt; number(buyer), Some(2));
     assert_eq!(rt; number(seller_effect), Some(5));
     assert_eq!(rt; number(price), Some(1200));
-    let numbers = line.numbers().ok_or("no numbers")?;
-    assert!(rt; numbers.as_slice() == [1, 2, 3, 4, 5, 6, 1200].as_slice());
-    let text = write_filled(&line, answer(0, 9)).ok_or("no text")?;
-    assert!(rt; text.as_bytes() == b"13 1 2 3 4 5 6 1200 : 0 9\n".as_slice());
-    Ok(())
-}
-
-#[test]
-fn trade_at_once(rt: HostRuntime) -> Result<(), Fail> {
-    let mut out = [9; 7];
-    let Ok((kind, numbers)) = read_numbers(b"13 1 2 3 4 5 6 1200\n", &mut out) else {
+    let Ok(again) = rewrite(Sort::Input, text) else {
         return Err(Fail::new("no line"));
     };
-    assert_eq!(rt; kind, 13);
-    assert!(rt; numbers == [1, 2, 3, 4, 5, 6, 1200].as_slice());
-    let Ok((kind, numbers)) = read_numbers(b"31\n", &mut out) else {
-        return Err(Fail::new("no line"));
-    };
-    assert_eq!(rt; kind, 31);
-    assert!(rt; numbers.is_empty());
-    let Err(fault) = read_numbers(b"13 1 2 3 4 5 6 01200\n", &mut out) else {
-        return Err(Fail::new("a faulty input line was read"));
-    };
-    assert_eq!(rt; fault.start, 16);
+    assert_eq!(rt; again.kind, 13);
+    assert!(rt; again.numbers.as_slice() == [1, 2, 3, 4, 5, 6, 1200].as_slice());
     Ok(())
 }
 
 #[test]
 fn filled(rt: HostRuntime) -> Result<(), Fail> {
-    let Ok(read) = read_filled(b"24 5 : 3 70\n") else {
+    let text: &[u8] = b"24 5 : 3 70\n";
+    let Ok(read) = read_filled(text) else {
         return Err(Fail::new("no line"));
     };
+    let Some(Line::FixingPrice { price }) = read.line else {
+        return Err(Fail::new("another kind"));
+    };
+    assert_eq!(rt; number(price), Some(5));
     assert_eq!(rt; number(read.reply), Some(3));
     assert_eq!(rt; number(read.result), Some(70));
-    assert_eq!(rt; read.line.kind(), 24);
-    Ok(())
-}
-
-#[test]
-fn no_such_line(rt: HostRuntime) {
-    let line = Line::FixingPrice { price: b"05" };
-    assert!(rt; write_filled(&line, answer(0, 0)).is_none());
-    assert!(rt; line.numbers().is_none());
-    assert!(rt; write_filled(&Line::Cut, answer(100_000_000, 0)).is_none());
-    assert!(rt; write_filled(&Line::Cut, answer(0, 100_000_000)).is_none());
-    assert!(rt; write_faulty(100_000_000).is_none());
-    assert!(rt; write_numbers(14, &[1], answer(0, 0)).is_none());
-    assert!(rt; write_numbers(24, &[], answer(0, 0)).is_none());
-    assert!(rt; write_numbers(24, &[100_000_000], answer(0, 0)).is_none());
-    assert!(rt; write_input_numbers(99, &[]).is_none());
-}
-
-#[test]
-fn from_numbers(rt: HostRuntime) -> Result<(), Fail> {
-    let faulty = write_faulty(66).ok_or("no text")?;
-    assert!(rt; faulty.as_bytes() == b"99 : 2 66\n".as_slice());
-    let filled = write_numbers(15, &[3, 99_999_999], answer(10, 0)).ok_or("no text")?;
-    assert!(rt; filled.as_bytes() == b"15 3 99999999 : 10 0\n".as_slice());
-    let input = write_input_numbers(27, &[]).ok_or("no text")?;
-    assert!(rt; input.as_bytes() == b"27\n".as_slice());
-    Ok(())
-}
-
-#[test]
-fn numbers_of_a_trade(rt: HostRuntime) -> Result<(), Fail> {
-    let Ok(line) = read_input(b"13 1 2 3 4 5 6 1200\n") else {
+    let Ok(again) = rewrite(Sort::Filled, text) else {
         return Err(Fail::new("no line"));
     };
-    let numbers = line.numbers().ok_or("no numbers")?;
-    let text = write_numbers(13, numbers.as_slice(), answer(0, 9)).ok_or("no text")?;
-    assert!(rt; text.as_bytes() == b"13 1 2 3 4 5 6 1200 : 0 9\n".as_slice());
+    assert_eq!(rt; again.kind, 24);
+    assert!(rt; again.numbers.as_slice() == [5, 3, 70].as_slice());
     Ok(())
 }
 
 #[test]
-fn no_such_answer(rt: HostRuntime) {
-    assert!(rt; write_numbers(28, &[], answer(100_000_000, 0)).is_none());
-    assert!(rt; write_numbers(28, &[], answer(0, 100_000_000)).is_none());
-}
-
-#[test]
-fn faulty_from_numbers(rt: HostRuntime) -> Result<(), Fail> {
-    let faulty = write_numbers(99, &[], answer(2, 66)).ok_or("no text")?;
-    assert!(rt; faulty.as_bytes() == b"99 : 2 66\n".as_slice());
+fn filled_of_a_faulty_line(rt: HostRuntime) -> Result<(), Fail> {
+    let text: &[u8] = b"99 : 2 66\n";
+    let Ok(read) = read_filled(text) else {
+        return Err(Fail::new("no line"));
+    };
+    assert!(rt; read.line.is_none());
+    assert_eq!(rt; number(read.result), Some(66));
+    let Ok(again) = rewrite(Sort::Filled, text) else {
+        return Err(Fail::new("no line"));
+    };
+    assert_eq!(rt; again.kind, 99);
+    assert!(rt; again.numbers.as_slice() == [2, 66].as_slice());
     Ok(())
 }
 

@@ -1,6 +1,6 @@
 use Rattle.std.proofs.Common.{arith, rules}
-use Rattle.grammar.specs.Kinds.{filled_kinds}
-use Rattle.grammar.specs.Grammar.{Stuck, Lines, answer}
+use Rattle.lines.specs.Kinds.{filled_kinds}
+use Rattle.lines.specs.Grammar.{Stuck, Lines, answer}
 use Rattle.lines.specs.Lines.{IsFilled}
 use Rattle.lines.specs.Reads.{ReadsFilled}
 use Rattle.lines.proofs.Tops.{told, filled_faulty}

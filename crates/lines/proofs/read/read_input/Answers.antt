@@ -1,6 +1,6 @@
 use Rattle.std.proofs.Common.{arith, rules}
-use Rattle.grammar.specs.Kinds.{kinds}
-use Rattle.grammar.specs.Grammar.{Stuck, Lines, feed}
+use Rattle.lines.specs.Kinds.{kinds}
+use Rattle.lines.specs.Grammar.{Stuck, Lines, feed}
 use Rattle.lines.specs.Lines.{IsInput}
 use Rattle.lines.specs.Reads.{ReadsInput}
 use Rattle.lines.proofs.Tops.{told, input_faulty}

@@ -1,5 +1,5 @@
 use Rattle.std.proofs.Common.{sym, arith}
-use Rattle.grammar.proofs.Heads.{two}
+use Rattle.lines.proofs.Heads.{two}
 use Rattle.lines.proofs.write.faulty_kind.Goals as goal
 
 pub returns : goal.returns

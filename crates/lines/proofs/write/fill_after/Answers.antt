@@ -1,5 +1,5 @@
 use Rattle.std.proofs.Common.{[]}
-use Rattle.parts.proofs.Cuts.{cut_none, cut_more}
+use Rattle.lines.proofs.Cuts.{cut_none, cut_more}
 use Rattle.lines.proofs.write.fill_after.Goals as goal
 
 pub returns : goal.returns

@@ -1,7 +1,7 @@
 use Rattle.std.proofs.Common.{◌≡◌, [], ◌∷◌, ◌++◌, decimal, ap, ◌∙◌, append_assoc}
 use Rattle.lines.specs.Lines.{answer_text}
 use Rattle.lines.specs.Texts.{text_of, cut}
-use Rattle.parts.proofs.Cuts.{cut_more}
+use Rattle.lines.proofs.Cuts.{cut_more}
 use Rattle.lines.proofs.write.push_answer.Goals as goal
 
 pub returns : goal.returns

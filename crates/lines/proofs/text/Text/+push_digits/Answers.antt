@@ -1,7 +1,7 @@
 use Rattle.std.proofs.Common.{◌≡◌, ◌+◌, ◌/◌, ◌%◌, [], ◌∷◌, ◌++◌, decimal, sym, ap, ◌∙◌, arith}
 use Rattle.std.proofs.lemmas.Fmt.{decimal_digit, decimal_step}
 use Rattle.lines.specs.Texts.{text_of, cut}
-use Rattle.parts.proofs.Cuts.{cut_more}
+use Rattle.lines.proofs.Cuts.{cut_more}
 use Rattle.lines.proofs.text.Text.+push_digits.Goals as goal
 use Rattle.lines.proofs.text.Text.+push_digits.Goals.{then-n-ge10, else-n-ge10}
 

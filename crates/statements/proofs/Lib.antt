@@ -1,2 +1,0 @@
-pub mod Statements
-pub mod Rewriting
