@@ -1,9 +1,9 @@
 -- Lines that fit their format, and their texts.
-use Rattle.std.proofs.Common.{ℕ, ◌+◌, List, ◌++◌, length, take, drop, replicate, slice_index_or, sym, refl, subst, ⊎_elim, arith}
+use Rattle.std.proofs.Common.{ℕ, ◌+◌, List, ◌++◌, length, take, drop, slice_index_or, sym, refl, subst, ⊎_elim, arith}
 use Rattle.std.proofs.lemmas.Bool.{cases_lt}
 use Rattle.std.proofs.lemmas.List.{get_or_past}
 use Rattle.std.specs.List.{All, AllByRecursion}
-use Rattle.std.proofs.lemmas.List.Elements.{All-append, All-take, All-drop, All-replicate, All-from_recursion}
+use Rattle.std.proofs.lemmas.List.Elements.{All-append, All-take, All-drop, All-from_recursion}
 use Rattle.settlement.specs.declared.line.Line.{Line}
 use Rattle.settlement.specs.declared.line.Role.{Role}
 use Rattle.settlement.specs.declared.line.Role.TheVariants.{Exerciser, Assignee}
@@ -37,9 +37,6 @@ has_text l f = record { ten = refl; short = numbers_short l f; is = refl }
 
 empty_fits : Fits empty_line
 empty_fits = record { series = omega arith; account = omega arith; contracts = omega arith; received = omega arith; delivered = omega arith; paid = omega arith; earned = omega arith; day = omega arith }
-
-pub all_empty_fit : (n : ℕ) → All Fits (replicate n empty_line)
-all_empty_fit n = All-replicate Fits n empty_line empty_fits
 
 -- past the last place too
 pub fits_at : (ps : List Line) (i : ℕ) → All Fits ps → Fits (slice_index_or ps i empty_line)

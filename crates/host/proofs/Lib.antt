@@ -1,5 +1,4 @@
 pub mod Firsts
-pub mod Digits
 pub mod ByKind
 pub mod Fitting
 pub mod Following

@@ -7,7 +7,7 @@ ghost use Rattle.lines.specs.Parts.{parts_of};
 ghost use Rattle.host.specs.Instructions.{instruction_of};
 
 use ledger::{PositionTransfer, Trade};
-use lines::Line;
+use lines::{Line, number};
 use register::{Call, ExerciseCall, InputCall, Opening};
 
 /// What an input line asks for: a call of the book, or that a tape number is taken.
@@ -17,17 +17,15 @@ pub enum Instruction {
     TapeNumber(u32),
 }
 
-// The number that a field writes. Not by `lines::number`, which judges the digits again: that would take a tenth of the
-// program's speed.
-#[tactic(auto, using(crate::proofs::Digits::digit_at, crate::proofs::Digits::one_more))]
+// The number that a field writes.
+#[inline]
 fn value(field: &[u8]) -> u32
     requires { IsNumber 8 field.now }
     ensures { result ≡ digits_value 10 field.now }
 {
-    let mut n = 0;
-    for b in field {
-        n = n * 10 + u32::from(*b - b'0');
-    }
+    let Some(n) = number(field) else {
+        unreachable!()
+    };
     n
 }
 
