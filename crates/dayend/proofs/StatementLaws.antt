@@ -7,7 +7,7 @@ use Rattle.std.proofs.lemmas.List.FromFn.{map-range_with_len_more}
 use Rattle.positions.specs.declared.cell.Cell.{Cell}
 use Rattle.positions.specs.Cells.{no_cell}
 use Rattle.settlement.specs.Lines.{Countable}
-use Rattle.settlement.proofs.LineLaws.{lines_needed, lines_needed_le, length_series}
+use Rattle.settlement.proofs.LineLaws.{lines_needed, lines_needed_le, counting_more, length_series}
 use Rattle.ledger.specs.declared.state.Series.{Series}
 use Rattle.ledger.specs.declared.state.State.{State}
 use Rattle.ledger.specs.declared.state.Stage.{Stage}
@@ -42,20 +42,17 @@ countable s f i j lt =
 -- ── how many lines ──
 
 -- at most three for each of 32 accounts
-pub lines_few : (cells : List Cell) → length cells ≤ 32 → lines_needed cells ≤ 96
+lines_few : (cells : List Cell) → length cells ≤ 32 → lines_needed cells ≤ 96
 lines_few cells h = omega (arith, lines_needed_le cells)
 
 abbrev pub rows_needed : List Series → ℕ
 rows_needed rows = sum_by (λ r. lines_needed r.cells) rows
 
 -- so many for each series
-pub rows_few : (rows : List Series) → ((i : ℕ) → i < length rows → length (get_or rows i past_series).cells ≡ 32) → rows_needed rows ≤ 96 * length rows
+rows_few : (rows : List Series) → ((i : ℕ) → i < length rows → length (get_or rows i past_series).cells ≡ 32) → rows_needed rows ≤ 96 * length rows
 rows_few [] h = omega arith
 rows_few (r ∷ rs) h =
     omega (arith, sum_by-cons (λ (r : Series). lines_needed r.cells) r rs, lines_few r.cells (omega (arith, h 0 (omega arith))), rows_few rs (λ i l. h (suc i) (omega arith)))
-
-counting_more : (n : ℕ) → range_with_len 0 (n + 1) ≡ range_with_len 0 n ++ n ∷ []
-counting_more n = sym (map-id (range_with_len 0 (n + 1))) ∙ map-range_with_len_more (λ x. x) 0 n n (omega arith) ∙ ap (λ l. l ++ n ∷ []) (map-id (range_with_len 0 n))
 
 module _ (size day : ℕ) (rows : List Series) where
   pub lines_more : (n : ℕ) → first_lines n size day rows ++ lines_at size day rows n ≡ first_lines (n + 1) size day rows
@@ -79,6 +76,7 @@ module _ (size day : ℕ) (rows : List Series) where
   lines_length_le n h = omega (arith, lines_length n h, sum_by-take-le (λ (r : Series). lines_needed r.cells) rows n)
 
 module _ (s : State) (f : Facts s) where
+  -- counted series by series
   pub places_counted : places_needed s ≡ rows_needed s.series.rows
   places_counted = ap (λ n. length (first_lines n s.terms.size s.day s.series.rows)) (sym f.tables.1.1) ∙ lines_length_all s.terms.size s.day s.series.rows
 

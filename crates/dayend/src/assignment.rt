@@ -78,7 +78,7 @@ pub fn check_assignment<S: Draws>(book: &Ledger, source: &S) -> Result<(), Refus
     Ok(())
 }
 
-// Exercises what is due and assigns it, series by series, and answers the draws used.
+/// Exercises what is due and assigns it, series by series, and answers the draws used.
 pub fn assign<S: Draws>(book: &mut Ledger, source: &mut S) -> u32
     requires cut { book.old.state.stage ≡ Cut }
     requires supplied { needed book.old.state ≤ (S.meaning source.old).supply }

@@ -42,7 +42,7 @@ pub lines_needed_le : (cells : List Cell) → lines_needed cells ≤ 3 * length 
 lines_needed_le [] = omega arith
 lines_needed_le (c ∷ cs) = omega (arith, sum_by-cons line_count c cs, line_count_le c, lines_needed_le cs)
 
-counting_more : (n : ℕ) → range_with_len 0 (n + 1) ≡ range_with_len 0 n ++ n ∷ []
+pub counting_more : (n : ℕ) → range_with_len 0 (n + 1) ≡ range_with_len 0 n ++ n ∷ []
 counting_more n = sym (map-id (range_with_len 0 (n + 1))) ∙ map-range_with_len_more (λ x. x) 0 n n (omega arith) ∙ ap (λ l. l ++ n ∷ []) (map-id (range_with_len 0 n))
 
 module _ (t : SeriesTerms) where

@@ -91,8 +91,8 @@ fn settle_none(cells: &mut [Cell; 32], lapses: bool)
     }
 }
 
-// Assigns what is due in one series to the short contracts by draw, settles each account, and answers how many draws
-// that took.
+/// Assigns the contracts that are due in one series to the short contracts by draw, and settles each account: its cell,
+/// and its shares lodged, less those that cover its assigned calls. Answers how many draws that took.
 // Kept: as in `settle_all`.
 pub fn assign_series<S: Draws>(
     source: &mut S,

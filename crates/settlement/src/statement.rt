@@ -65,7 +65,7 @@ impl Writer<'_> {
     }
 }
 
-// Writes the lines of one series from a place on, and answers the place after them.
+/// Writes the lines of one series from a place on, and answers the place after them.
 // Kept: the place: the statement is written into a lent slice by place, as this project asks.
 pub fn write_series(lines: &mut [Line], at: usize, terms: &SeriesTerms, cells: &[Cell; 32]) -> usize
     requires fits { at + length (series_lines terms.now cells.now) ≤ length lines.old }
