@@ -1,4 +1,4 @@
-// Reads a million input lines and writes them filled, by the proved library and by plain Rust.
+// Reads a million input lines, takes their numbers and writes them filled, by the proved library and by plain Rust.
 use std::hint::black_box;
 use std::time::Instant;
 
@@ -67,6 +67,11 @@ fn read(line: &[u8]) -> Result<Read<'_>, usize> {
     Ok(Read { kind, count, fields })
 }
 
+// The number that a field writes.
+fn value(field: &[u8]) -> u64 {
+    field.iter().fold(0, |n, b| 10 * n + u64::from(b - b'0'))
+}
+
 struct Text {
     bytes: [u8; 170],
     len: usize,
@@ -105,23 +110,25 @@ impl Text {
     }
 }
 
-// As in the library: the line's bytes up to its line feed, and the answer, which has at most eight digits.
-fn filled(line: &[u8], result: u32) -> Option<Text> {
-    let mut text = Text::new();
+// As in the library: the line's bytes up to its line feed, and the answer, which has at most eight digits. The sum of the
+// line's numbers comes back.
+fn filled(text: &mut Text, line: &[u8], result: u32) -> Option<u64> {
+    text.len = 0;
     match read(line) {
-        Ok(_) if result > 99_999_999 => return None,
         Ok(read) => {
-            // So that the kind and the fields are read, though the text needs none of them.
-            black_box((read.kind, read.count, &read.fields));
+            // So that the kind is read, though the text needs it not.
+            black_box(read.kind);
+            let numbers = read.fields[..read.count].iter().map(|field| value(field)).sum();
             text.push(&line[..line.len() - 1]);
             text.push_answer(0, result);
+            (result <= 99_999_999).then_some(numbers)
         }
         Err(start) => {
             text.push(b"99");
             text.push_answer(2, start as u32);
+            Some(0)
         }
     }
-    Some(text)
 }
 
 fn checksum(bytes: &[u8]) -> u64 {
@@ -129,10 +136,11 @@ fn checksum(bytes: &[u8]) -> u64 {
 }
 
 fn plain(buffer: &[u8], result: u32) -> u64 {
+    let mut text = Text::new();
     let mut sum: u64 = 0;
     for line in buffer.split_inclusive(|b| *b == b'\n') {
-        if let Some(text) = filled(line, result) {
-            sum = sum.wrapping_mul(31).wrapping_add(checksum(&text.bytes[..text.len]));
+        if let Some(numbers) = filled(&mut text, line, result) {
+            sum = sum.wrapping_mul(31).wrapping_add(checksum(&text.bytes[..text.len])).wrapping_add(numbers);
         }
     }
     sum

@@ -1,11 +1,7 @@
 -- Lines that are put together from their parts.
-use Rattle.std.proofs.Common.{◌≡◌, ℕ, ◌≤◌, List, [], ◌∷◌, ◌++◌, length, Some, decimal, refl, ap, ◌∙◌, append_assoc, arith}
-use Rattle.std.specs.List.{AllByRecursion}
-use Rattle.lines.specs.Kinds.{arity, kinds, filled_kinds, Short}
-use Rattle.lines.specs.Lines.{fields_text, answer_text, InputLine, FilledLine}
+use Rattle.std.proofs.Common.{◌≡◌, ℕ, ◌≤◌, List, [], ◌∷◌, ◌++◌, length, decimal, ap, ◌∙◌, append_assoc}
 use Rattle.lines.specs.Texts.{cut}
 use Rattle.lines.proofs.Cuts.{cut_more, cut_none, cut_all}
-use Rattle.lines.proofs.Lengths.{input_length, filled_length}
 
 -- the kind, after nothing, and then the fields
 pub started : (k : ℕ) (new t u fs : List ℕ) → new ≡ [] → t ≡ cut (new ++ decimal k) → u ≡ cut (t ++ fs) → u ≡ cut (decimal k ++ fs)
@@ -17,13 +13,3 @@ one_before b old t u xs e f = cut_more 170 t u old (b ∷ []) xs e f
 
 pub ended : (k : ℕ) (t u fs end : List ℕ) → length (decimal k ++ (fs ++ end)) ≤ 170 → t ≡ cut (decimal k ++ fs) → u ≡ cut (t ++ end) → u ≡ decimal k ++ (fs ++ end)
 ended k t u fs end l e f = cut_all 170 u (decimal k ++ (fs ++ end)) l (cut_more 170 t u [] (decimal k ++ fs) end e f ∙ ap cut (append_assoc (decimal k) fs end))
-
-pub input_made : (k : ℕ) (ns t u : List ℕ) → arity kinds k ≡ Some (length ns) → AllByRecursion (Short 8) ns → t ≡ cut (decimal k ++ fields_text ns) → u ≡ cut (t ++ (10 ∷ [])) → InputLine k ns u
-input_made k ns t u known short e f =
-    let l = input_length k ns (decimal k ++ (fields_text ns ++ (10 ∷ []))) (record { known = known; short = short; is = refl }) in
-    record { known = known; short = short; is = ended k t u (fields_text ns) (10 ∷ []) (omega arith) e f }
-
-pub filled_made : (k : ℕ) (ns : List ℕ) (a b : ℕ) (t u : List ℕ) → arity filled_kinds k ≡ Some (length ns) → AllByRecursion (Short 8) ns → Short 8 a × Short 8 b → t ≡ cut (decimal k ++ fields_text ns) → u ≡ cut (t ++ answer_text a b) → FilledLine k ns a b u
-filled_made k ns a b t u known short answer e f =
-    let l = filled_length k ns a b (decimal k ++ (fields_text ns ++ answer_text a b)) (record { known = known; short = short; reply_short = answer.0; result_short = answer.1; is = refl }) in
-    record { known = known; short = short; reply_short = answer.0; result_short = answer.1; is = ended k t u (fields_text ns) (answer_text a b) (omega arith) e f }

@@ -108,7 +108,7 @@ room_wide : (d : ℕ) (ds v : List ℕ) → length ds ≤ d → 0 < length ds �
 room_wide d [] v a b c = absurd (omega arith)
 room_wide d (x ∷ xs) v a b c = cond_both (eqb x 48) 1 d (λ m. length (x ∷ xs) ≤ m) (λ e. omega (arith, c (eqb-true x 48 e))) (λ e. a)
 
-room_most : (d : ℕ) (xs : List ℕ) → 0 < d → room d xs ≤ d
+pub room_most : (d : ℕ) (xs : List ℕ) → 0 < d → room d xs ≤ d
 room_most d [] l = omega arith
 room_most d (x ∷ xs) l = cond_both (eqb x 48) 1 d (λ m. m ≤ d) (λ e. omega arith) (λ e. omega arith)
 
@@ -328,29 +328,30 @@ is_digits d ds w h =
 pub digit_is : (b d : ℕ) → d < 10 → b ≡ 48 + d → digit_value b ≡ d
 digit_is b d l e = cond-false (ltb b 48) _ _ (le-ltb b 48 (omega arith)) ∙ cond-true (ltb b 58) _ _ (lt-ltb b 58 (omega arith)) ∙ (omega arith)
 
-sixteen : Wide 16
+pub eight : Wide 8
+eight = (omega arith, omega arith)
+
+pub sixteen : Wide 16
 sixteen = (omega arith, omega arith)
 
-pub digit_in : (ds : List ℕ) (i : ℕ) → IsNumber 16 ds → i < length ds → IsInRange 48 57 (get_or ds i 0)
-digit_in ds i h l = digit_at ds i (is_digits 16 ds sixteen h).0 l
+pub digit_in : (d : ℕ) (ds : List ℕ) (i : ℕ) → Wide d → IsNumber d ds → i < length ds → IsInRange 48 57 (get_or ds i 0)
+digit_in d ds i w h l = digit_at ds i (is_digits d ds w h).0 l
 
--- the value before the last digit leaves room for one more
-pub short_before : (ds : List ℕ) (i : ℕ) → IsNumber 16 ds → i < length ds → digits_value 10 (take i ds) < 10 ^ 15
-short_before ds i h l =
-    let p = is_digits 16 ds sixteen h in
-    let n = length-take-le i ds (omega arith) in
-    let ds-at : (k : ℕ) → k < length (take i ds) → IsInRange 48 57 (get_or (take i ds) k 0) = λ k m. rw (get_or-take i ds k 0 (omega arith)) (digit_at ds k p.0 (omega arith)) in
-    digits_value_short by_index (take i ds) 15 ds-at (omega (arith, p.1))
+-- the first m digits at most
+pub short_before : (m : ℕ) (ds : List ℕ) (i : ℕ) → ((k : ℕ) → k < i → IsInRange 48 57 (get_or ds k 0)) → i ≤ length ds → i ≤ m → digits_value 10 (take i ds) < 10 ^ m
+short_before m ds i digits within most =
+    let n = length-take-le i ds within in
+    digits_value_short by_index (take i ds) m (λ k l. rw (get_or-take i ds k 0 (omega (arith, n))) (digits k (omega (arith, n)))) (omega (arith, n))
 
--- what is read of a text that is one number
-pub number_rest : (xs ds rest : List ℕ) → NumberRead 8 xs ds rest → IsNumber 8 xs → rest ≡ []
-number_rest xs ds rest r h =
-    let written : Writes (num 8 ∷ []) (digits_value 10 xs ∷ []) (ds ++ rest) = (digits_value 10 xs, [], [], refl, h.0, sym r.split ∙ sym h.1 ∙ sym (append-nil _), (refl, refl)) in
-    let p = (r.reached [] tt).from (digits_value 10 xs ∷ []) rest refl written in
-    p.2.1
+-- a text is a number where its digits are at most as many as the first allows
+pub number_from : (d : ℕ) (ds : List ℕ) → Wide d → 0 < length ds → length ds ≤ room d ds → ((i : ℕ) → i < length ds → IsInRange 48 57 (get_or ds i 0)) → IsNumber d ds
+number_from d ds w some fits digits =
+    let run : Run d ds ds [] = record { split = sym (append-nil ds); digits = own.from ds (by_index.to ds digits); fits = fits; stops = inr tt } in
+    (run_read d ds ds [] w run some).number
 
--- a scan that is stuck before a number, and so reads no text that is one
-pub no_number : (xs : List ℕ) (left : ℕ) → ((ps : List Piece) → Stuck (Writes (num 8 ∷ ps)) xs left) → IsNumber 8 xs → ⊥
-no_number xs left st h =
-    let s = st [] in
-    s.stops (digits_value 10 xs ∷ []) s.rest refl (digits_value 10 xs, [], [], refl, h.0, sym s.split ∙ sym h.1 ∙ sym (append-nil _), (refl, refl))
+-- and only there
+pub number_to : (d : ℕ) (ds : List ℕ) → Wide d → IsNumber d ds → (0 < length ds) × (length ds ≤ room d ds)
+number_to d ds w h =
+    let P : List ℕ → Type 0 = λ l. (0 < length l) × (length l ≤ room d l) in
+    let n = digits_value 10 ds in
+    subst P h.1 (decimal_nonempty n (short_fits d n w h.0), rw (append-nil (decimal n)) at (decimal_room d n [] w h.0))

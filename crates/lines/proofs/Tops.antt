@@ -13,6 +13,7 @@ use Rattle.lines.specs.Reads.{ReadsInput, reply_of, result_of, ReadsFilled}
 use Rattle.lines.specs.declared.line.Filled as read
 use Rattle.lines.specs.declared.read.Faulty.{Faulty}
 use Rattle.lines.proofs.Cuts.{take_past}
+use Rattle.lines.proofs.Lengths.{input_start}
 use Rattle.lines.proofs.Tables.{known_filled, known_input, only_faulty, line_known}
 use Rattle.lines.proofs.Steps.{done_after, not_digit_10, answer_delim}
 
@@ -205,3 +206,6 @@ pub told : {X : Type 0} (L : List ℕ → Type 0) (most : ℕ) (s : List ℕ) (r
 told L most s (Ok x) q P S G h same st short fits by = subst (λ o. MatchResult o P (λ f. LongestStart L s f.start × (f.start ≤ most))) (sym same) h
 told L most s (Err e) (Ok x) P S G h at st short fits by = absurd at
 told L most s (Err e) (Err f) P S G h at st short fits by = start_told L most s e f (st e h) short fits (by e f at)
+
+pub input_told : {X : Type 0} (w : List ℕ) (r : Result X ℕ) (q : Result X Faulty) (P : X → Type 0) (G : ℕ → Faulty → Type 0) → MatchResult r P (Stuck (Lines kinds feed) w) → MatchResult r (λ x. q ≡ Ok x) (λ e. IsErrAnd q (G e)) → ((e : ℕ) (f : Faulty) → G e f → f.start ≡ min (length w - e) 170) → MatchResult q P (λ f. LongestStart IsInput w f.start × (f.start ≤ 66))
+input_told w r q P G h at by = told IsInput 66 w r q P (Stuck (Lines kinds feed) w) G h at (input_faulty w) (input_start w) (omega arith) by

@@ -8,11 +8,11 @@ use super::numbers::Numbers;
 use super::read::{Faulty, read_filled, read_input};
 use super::scan::number;
 use super::text::Text;
-use super::write::{write_input_numbers, write_numbers};
+use super::write::{filled_text, input_text};
 use draws::Reply;
 
-// What a line was read as, and its text written from that. The numbers of a filled line end with reply and result.
-// Kept: the kind goes from `Line::kind` into `write_numbers`, whose promises are of any number.
+/// What a line was read as, its kind and numbers, and its text written from these. The numbers of a filled line end with
+/// reply and result; kind 99 is the filled line of a faulty input line.
 #[derive(Clone, Copy)]
 pub struct Rewritten {
     pub kind: u8,
@@ -28,17 +28,13 @@ fn rewrite_input(line: &[u8]) -> Result<Rewritten, Faulty>
     let Some(numbers) = read.numbers() else {
         unreachable()
     };
-    let Some(text) = write_input_numbers(kind, numbers.as_slice()) else {
-        unreachable()
-    };
     Ok(Rewritten {
         kind,
         numbers,
-        text,
+        text: input_text(kind, numbers.as_slice()),
     })
 }
 
-// Kept: a filled line has reply and result beside its fields, so little is left that both could share.
 fn rewrite_filled(line: &[u8]) -> Result<Rewritten, Faulty>
     ensures { MatchResult result (λ w. Rewrites Sort.Filled line.now w) (λ f. LongestStart IsFilled line.now f.start × (f.start ≤ 86)) }
 {
@@ -55,9 +51,7 @@ fn rewrite_filled(line: &[u8]) -> Result<Rewritten, Faulty>
         number: reply,
         result,
     };
-    let Some(text) = write_numbers(kind, fields.as_slice(), answer) else {
-        unreachable()
-    };
+    let text = filled_text(kind, fields.as_slice(), answer);
     let mut numbers = fields;
     numbers.push(reply);
     numbers.push(result);
@@ -68,7 +62,8 @@ fn rewrite_filled(line: &[u8]) -> Result<Rewritten, Faulty>
     })
 }
 
-// Reads a line as a kind and numbers, and writes it again from these.
+/// Reads a line of a sort as a kind and numbers, and writes it again from these, to the same bytes. Any other bytes are
+/// faulty, by the length of their longest start that begins a line of the sort.
 pub fn rewrite(sort: Sort, line: &[u8]) -> Result<Rewritten, Faulty>
     ensures { MatchResult result (λ w. Rewrites sort line.now w) (λ f. LongestStart (IsLine sort) line.now f.start × (f.start ≤ longest_line sort)) }
 {

@@ -3,21 +3,21 @@
 ghost use Rattle.std.specs.Prelude.{◌≡◌};
 ghost use Rattle.lines.specs.Kinds.{FirstPlace, arity, kinds_of};
 
-// The sorts of archive lines: as they come in, and filled with their answer.
+/// The sorts of archive lines: as they come in, and filled with their answer.
 #[derive(Clone, Copy, PartialEq, Eq, Debug)]
 pub enum Sort {
     Input,
     Filled,
 }
 
-// A kind of line, and how many fields it has.
+/// A kind of line, by its number, and how many fields it has.
 #[derive(Clone, Copy, PartialEq, Eq, Debug)]
 pub struct Row {
     pub kind: u8,
     pub fields: usize,
 }
 
-// The place of the first row with that kind.
+/// The place of the first row with that kind; none where no row has it.
 pub fn find(rows: &[Row], kind: u8) -> Option<usize>
     ensures { FirstPlace rows.now kind result }
 {

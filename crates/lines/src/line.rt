@@ -2,6 +2,7 @@
 ghost use Rattle.std.specs.Prelude.{◌≡◌, ◌≤◌, map, length, take};
 ghost use Rattle.lines.specs.Parts.{Made, kind_of, parts_of, kind_in};
 
+/// An input line by its kind, with the bytes of each field as they stand in the line.
 #[derive(Clone, Copy)]
 pub enum Line<'a> {
     Open {
@@ -90,8 +91,8 @@ pub enum Line<'a> {
     },
 }
 
-// A read filled line: the reply and the result too are parts of it. It has no line where it stands for a faulty input
-// line, as kind 99 does.
+/// A filled line: the input line before its answer, and the bytes of reply and result. There is no line where it stands
+/// for a faulty input line, as kind 99 does.
 #[derive(Clone, Copy)]
 pub struct Filled<'a> {
     pub line: Option<Line<'a>>,

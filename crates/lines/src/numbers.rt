@@ -10,7 +10,7 @@ use super::line::{Filled, Line, fields_in};
 use super::scan::number;
 use few::Few;
 
-// At most 9 numbers: seven fields, and of a filled line reply and result.
+/// At most 9 numbers: seven fields, and of a filled line reply and result.
 // Kept: a Few of its own type, since it leaves out in silence what has no room, where Few answers Full.
 #[derive(Clone, Copy)]
 pub struct Numbers {
@@ -26,6 +26,7 @@ impl Numbers {
         }
     }
 
+    /// The numbers, in the order of the line.
     pub fn as_slice(&self) -> &[u32]
         ensures { result.now ≡ list_of self.now }
     {

@@ -29,13 +29,6 @@ impl Number for u64 {
     }
 }
 
-// Whether all numbers are below a limit.
-pub(crate) fn all_below<N: Number>(numbers: &[N], limit: u64) -> bool
-    ensures { Decides result (AllByRecursion (λ n. N.value n < limit) numbers.now) }
-{
-    numbers.iter().all(|n| n.value() < limit)
-}
-
 // Appends a blank and a number.
 #[tactic(auto, using(crate::proofs::Made::one_before))]
 fn push_field(text: &mut Text, n: u64)

@@ -1,17 +1,16 @@
 // Reading input lines and filled lines.
-ghost use Rattle.std.specs.Prelude.{◌≡◌, ◌-◌, ◌≤◌, min, List, length, MatchResult};
-ghost use Rattle.lines.specs.Kinds.{kinds_of, kinds, filled_kinds};
-ghost use Rattle.lines.specs.Grammar.{Piece, Delim, Writes, StartRead, AnswerRead, Stuck, Lines, feed, answer};
-ghost use Rattle.lines.specs.Parts.{kind_in, parts_in};
+ghost use Rattle.std.specs.Prelude.{◌≡◌, ◌-◌, ◌≤◌, min, [], map, length, take, MatchResult};
+ghost use Rattle.lines.specs.Kinds.{kinds, filled_kinds};
+ghost use Rattle.lines.specs.Grammar.{Writes, StartRead, Done, Stuck, Lines, feed, answer};
 ghost use Rattle.lines.specs.Lines.{IsInput, IsFilled, LongestStart};
 ghost use Rattle.lines.specs.Reads.{ReadsInput, ReadsFilled};
 
 use super::kinds::Sort;
 use super::line::{Filled, Line, line_of};
-use super::scan::{read_answer, read_feed, read_start};
+use super::scan::{Head, read_answer, read_feed, read_start};
 use super::text::LONGEST;
 
-// Bytes that are no line of the sort read, by the length of their longest start that begins one.
+/// Bytes that are no line of the sort read, by the length of their longest start that begins one.
 #[derive(Clone, Copy, PartialEq, Eq, Debug)]
 pub struct Faulty {
     pub start: u32,
@@ -29,54 +28,43 @@ impl Faulty {
     }
 }
 
-// The kind and the fields at the start of a line of a sort, and what follows them.
-// Kept: fields, a line and its sort, as `read_start` has them.
-fn line_start<'a>(line: &'a [u8], sort: Sort) -> Result<(Option<Line<'a>>, &'a [u8]), usize>
-    ensures { MatchResult result (λ p. StartRead (kinds_of sort) line.now (kind_in p.0) (parts_in p.0) p.1.now) (λ left. (t : List Piece) → Delim t → Stuck (Lines (kinds_of sort) t) line.now left) }
+// The kind of an input line; its fields come to the front of `fields`.
+fn scan_input<'a>(line: &'a [u8], fields: &mut [&'a [u8]; 7]) -> Result<Head<'a>, usize>
+    ensures { MatchResult result (λ h. StartRead kinds line.now h.kind (map (λ d. d.now) (take h.fields fields.new)) h.rest.now × Done (Writes feed) h.rest.now []) (λ left. Stuck (Lines kinds feed) line.now left) }
 {
-    let mut out: [&'a [u8]; 7] = [&[]; 7];
-    let head = read_start(line, sort, &mut out)?;
-    Ok((line_of(head.kind, &out), head.rest))
+    let head = read_start(line, Sort::Input, fields)?;
+    read_feed(head.rest)?;
+    Ok(head)
 }
 
-// Kept: each of the three scans has another answer and another end, so a start and `read_feed` are all they share.
-fn scan_input<'a>(line: &'a [u8]) -> Result<Line<'a>, usize>
-    ensures { MatchResult result (λ l. ReadsInput line.now l) (λ left. Stuck (Lines kinds feed) line.now left) }
-{
-    let (read, end) = line_start(line, Sort::Input)?;
-    let Some(read) = read else { unreachable() };
-    read_feed(end)?;
-    Ok(read)
-}
-
-// Reads an input line.
+/// Reads an input line, up to and with its line feed: its kind, with its fields as parts of it. Any other bytes are
+/// faulty, and `start` is how many of them begin some input line, at most 66.
 pub fn read_input<'a>(line: &'a [u8]) -> Result<Line<'a>, Faulty>
     ensures { MatchResult result (λ l. ReadsInput line.now l) (λ f. LongestStart IsInput line.now f.start × (f.start ≤ 66)) }
 {
-    scan_input(line).map_err(|left| Faulty::of(line, left))
+    let mut fields: [&'a [u8]; 7] = [&[]; 7];
+    let head = scan_input(line, &mut fields).map_err(|left| Faulty::of(line, left))?;
+    let Some(read) = line_of(head.kind, &fields) else {
+        unreachable()
+    };
+    Ok(read)
 }
 
-// A line that was read, with the answer that follows its fields.
-fn with_answer<'a>(line: Option<Line<'a>>, end: &'a [u8]) -> Result<Filled<'a>, usize>
-    ensures { MatchResult result (λ f. (f.line ≡ line.entry) × AnswerRead end.now f.reply.now f.result.now) (λ left. Stuck (Writes answer) end.now left) }
+fn scan_filled<'a>(line: &'a [u8]) -> Result<Filled<'a>, usize>
+    ensures { MatchResult result (λ f. ReadsFilled line.now f) (λ left. Stuck (Lines filled_kinds answer) line.now left) }
 {
-    let (reply, result) = read_answer(end)?;
+    let mut fields: [&'a [u8]; 7] = [&[]; 7];
+    let head = read_start(line, Sort::Filled, &mut fields)?;
+    let (reply, result) = read_answer(head.rest)?;
     Ok(Filled {
-        line,
+        line: line_of(head.kind, &fields),
         reply,
         result,
     })
 }
 
-// Kept: as in `scan_input`.
-fn scan_filled<'a>(line: &'a [u8]) -> Result<Filled<'a>, usize>
-    ensures { MatchResult result (λ f. ReadsFilled line.now f) (λ left. Stuck (Lines filled_kinds answer) line.now left) }
-{
-    let (read, end) = line_start(line, Sort::Filled)?;
-    with_answer(read, end)
-}
-
-// Reads a filled line.
+/// Reads a filled line, up to and with its line feed. Any other bytes are faulty, and `start` is how many of them begin
+/// some filled line, at most 86.
 pub fn read_filled<'a>(line: &'a [u8]) -> Result<Filled<'a>, Faulty>
     ensures { MatchResult result (λ l. ReadsFilled line.now l) (λ f. LongestStart IsFilled line.now f.start × (f.start ≤ 86)) }
 {

@@ -41,11 +41,8 @@ impl Width {
     fn digit_run(self, s: &[u8]) -> (&[u8], &[u8])
         ensures { Run self.digits s.now result.0.now result.1.now }
     {
-        let n = s
-            .iter()
-            .take(self.room_at(s))
-            .take_while(|b| b.is_ascii_digit())
-            .count();
+        let most = self.room_at(s).min(s.len());
+        let n = s[..most].iter().take_while(|b| b.is_ascii_digit()).count();
         s.split_at(n)
     }
 
@@ -103,18 +100,19 @@ pub(crate) fn value_of(digits: &[u8]) -> u64
     n
 }
 
-// The number that a field writes; none for bytes that are no number of a line.
+/// The number that a field of an archive line writes; none for bytes that are no number of one: 1 to 8 digits, with no
+/// 0 before others.
 pub fn number(field: &[u8]) -> Option<u32>
     ensures { MatchOption result (IsNumber 8 field.now → ⊥) (λ n. IsNumber 8 field.now × (n ≡ digits_value 10 field.now)) }
 {
-    let Ok((digits, rest)) = Width::OF_ARCHIVE.read_number(field) else {
+    if field.is_empty() || field.len() > Width::OF_ARCHIVE.room_at(field) {
         return None;
-    };
-    if rest.is_empty() {
-        Some(value_of(digits) as u32)
-    } else {
-        None
     }
+    let mut n: u32 = 0;
+    for b in field {
+        n = 10 * n + u32::from(digit(*b)?);
+    }
+    Some(n)
 }
 
 // A kind with its number of fields, and what follows it in a line.

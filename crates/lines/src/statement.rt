@@ -1,12 +1,12 @@
 // Statement lines.
-ghost use Rattle.std.specs.Prelude.{◌≡◌, ◌-◌, ◌≤◌, min, length, MatchResult};
+ghost use Rattle.std.specs.Prelude.{◌≡◌, ◌-◌, ◌≤◌, min, length, Decides, MatchResult};
 ghost use Rattle.std.specs.List.{AllByRecursion};
 ghost use Rattle.lines.specs.Kinds.{Short};
 ghost use Rattle.lines.specs.Lines.{StatementText, IsStatement, LongestStart};
 ghost use Rattle.lines.specs.Texts.{text_of, WrittenAs};
 ghost use Rattle.lines.specs.Statements.{values_of, ReadsStatement};
 
-use super::numerals::{all_below, push_numbers};
+use super::numerals::push_numbers;
 use super::read::Faulty;
 use super::ten::read_ten;
 use super::text::Text;
@@ -14,7 +14,14 @@ use super::text::Text;
 // A number of a statement line has at most 16 digits.
 const LIMIT: u64 = 10_000_000_000_000_000;
 
-// What one account has to give and to get in one series.
+// Whether each number has at most 16 digits.
+fn are_short(numbers: &[u64; 10]) -> bool
+    ensures { Decides result (AllByRecursion (Short 16) numbers.now) }
+{
+    numbers.iter().all(|n| *n < LIMIT)
+}
+
+/// What one account has to give and to get in one series: shares, and money in cents.
 // Kept: role and method are numbers, since a line that is read may have any of 16 digits there.
 #[derive(Clone, Copy, PartialEq, Eq, Debug)]
 pub struct StatementLine {
@@ -69,7 +76,8 @@ impl From<[u64; 10]> for StatementLine {
     }
 }
 
-// Reads a statement line.
+/// Reads a statement line, up to and with its line feed. Any other bytes are faulty, and `start` is how many of them
+/// begin some statement line, at most 170.
 pub fn read_statement(line: &[u8]) -> Result<StatementLine, Faulty>
     ensures { MatchResult result (λ s. ReadsStatement line.now s) (λ f. LongestStart IsStatement line.now f.start × (f.start ≤ 170)) }
 {
@@ -93,12 +101,12 @@ fn short_text(numbers: &[u64; 10]) -> Text
     text
 }
 
-// The text of a statement line; none where a number has more than 16 digits.
+/// The text of a statement line; none where a number has more than 16 digits.
 pub fn write_statement(line: &StatementLine) -> Option<Text>
     ensures { WrittenAs result (StatementText (values_of line.now)) }
 {
     let numbers = <[u64; 10]>::from(*line);
-    if !all_below(&numbers, LIMIT) {
+    if !are_short(&numbers) {
         return None;
     }
     Some(short_text(&numbers))

@@ -7,7 +7,7 @@ use few::Few;
 // The longest line of any sort, a statement line.
 pub(crate) const LONGEST: usize = 170;
 
-// The bytes of a line of any sort.
+/// The bytes of a line of any sort, at most 170.
 // Kept: a Few of its own type, since it leaves out in silence what has no room, where Few answers Full.
 #[derive(Clone, Copy)]
 pub struct Text {
@@ -15,20 +15,21 @@ pub struct Text {
 }
 
 impl Text {
-    // An empty text.
+    /// An empty text.
     pub fn new() -> Text
         ensures { text_of result ≡ [] }
     {
         Text { bytes: Few::new(0) }
     }
 
+    /// The bytes, in their order.
     pub fn as_bytes(&self) -> &[u8]
         ensures { result.now ≡ text_of self.now }
     {
         self.bytes.as_slice()
     }
 
-    // Forgets the bytes.
+    /// Forgets the bytes.
     pub fn clear(&mut self)
         ensures { text_of self.new ≡ [] }
     {
@@ -42,7 +43,7 @@ impl Text {
         let _ = self.bytes.push(b);
     }
 
-    // Appends as many bytes of `part` as there is room for.
+    /// Appends as many bytes of `part` as there is room for.
     pub fn push_all(&mut self, part: &[u8])
         ensures { text_of self.new ≡ cut (text_of self.old ++ part.now) }
     {

@@ -1,22 +1,13 @@
 // Writing input lines and filled lines.
-// Kept: codes of kinds are numbers, since a number that is no kind of a line is answered with none.
-// Kept: fields of a line, its kind and its numbers: a struct of them would be made at each call and opened at once.
-ghost use Rattle.std.specs.Prelude.{◌≡◌, ◌++◌, Some, decimal, Decides};
-ghost use Rattle.std.specs.List.{AllByRecursion};
-ghost use Rattle.lines.specs.Kinds.{arity, kinds_of, Short};
-ghost use Rattle.lines.specs.Lines.{before_feed, fields_text, answer_text, faulty, faulty_line, InputLine, FilledLine};
-ghost use Rattle.lines.specs.Texts.{text_of, cut, WrittenAs};
+ghost use Rattle.std.specs.Prelude.{◌≡◌, ◌++◌, decimal};
+ghost use Rattle.lines.specs.Lines.{before_feed, fields_text, answer_text, faulty, faulty_line, input_line, filled_line};
+ghost use Rattle.lines.specs.Texts.{text_of, cut};
 
-use super::kinds::{Sort, fields_of, kinds_of};
-use super::numerals::{all_below, push_numbers};
+use super::numerals::push_numbers;
 use super::text::Text;
 use draws::Reply;
 
-// A number of an archive line has at most 8 digits.
-const LIMIT: u64 = 100_000_000;
-
 // The reply to a faulty input line, by the length of its longest start that begins a line.
-// Kept: reply 2 is of this crate alone; other replies come from the two Refusal enums.
 fn faulty_reply(length: u32) -> Reply
     ensures { result ≡ faulty length }
 {
@@ -26,32 +17,13 @@ fn faulty_reply(length: u32) -> Reply
     }
 }
 
-// Whether each number has at most 8 digits.
-fn are_short(numbers: &[u32]) -> bool
-    ensures { Decides result (AllByRecursion (Short 8) numbers.now) }
-{
-    all_below(numbers, LIMIT)
-}
-
-// Whether number and result have at most 8 digits.
-fn is_short(reply: Reply) -> bool
-    ensures { Decides result (Short 8 reply.number × Short 8 reply.result) }
-{
-    are_short(&[reply.number, reply.result])
-}
-
-// Whether lines of the sort have the kind, with so many fields.
-fn is_known(sort: Sort, kind: u8, fields: usize) -> bool
-    ensures { Decides result (arity (kinds_of sort) kind ≡ Some fields) }
-{
-    fields_of(kinds_of(sort), kind) == Some(fields)
-}
-
-// Appends ` : `, the reply's number, blank, its result and line feed.
+// Appends ` : `, the reply's number, blank, its result and line feed. Byte by byte is faster than to copy so few.
 fn push_answer(text: &mut Text, reply: Reply)
     ensures { text_of text.new ≡ cut (text_of text.old ++ answer_text reply.number reply.result) }
 {
-    text.push_all(b" : ");
+    text.push(b' ');
+    text.push(b':');
+    text.push(b' ');
     text.push_number(u64::from(reply.number));
     text.push(b' ');
     text.push_number(u64::from(reply.result));
@@ -77,7 +49,8 @@ fn fill_after(text: &mut Text, start: &[u8], reply: Reply)
     push_answer(text, reply);
 }
 
-// Makes the text the filled line of an input line: its bytes up to the line feed, and then the reply.
+/// Makes the text the filled line of an input line: its bytes up to the line feed, and then the reply. Of what is longer
+/// than a text, the first 170 bytes.
 pub fn fill(text: &mut Text, line: &[u8], reply: Reply)
     ensures { text_of text.new ≡ cut (before_feed line.now ++ answer_text reply.number reply.result) }
 {
@@ -91,7 +64,8 @@ fn faulty_kind() -> &'static [u8]
     b"99"
 }
 
-// Makes the text the filled line of a faulty input line, by the length of its longest start that begins a line.
+/// Makes the text the filled line of a faulty input line, by the length of its longest start that begins a line: kind 99
+/// with reply 2.
 pub fn fill_faulty(text: &mut Text, length: u32)
     ensures { text_of text.new ≡ cut (faulty_line length) }
 {
@@ -108,27 +82,20 @@ fn start_text(kind: u8, numbers: &[u32]) -> Text
     text
 }
 
-// The input line of a kind with these numbers; none where there is no such line.
-// Kept: it ends in a line feed and judges no reply; what it shares with `write_numbers` is `start_text`.
-pub(crate) fn write_input_numbers(kind: u8, fields: &[u32]) -> Option<Text>
-    ensures { WrittenAs result (InputLine kind fields.now) }
+// The text of an input line of a kind with these numbers.
+pub(crate) fn input_text(kind: u8, numbers: &[u32]) -> Text
+    ensures { text_of result ≡ cut (input_line kind numbers.now) }
 {
-    if !is_known(Sort::Input, kind, fields.len()) || !are_short(fields) {
-        return None;
-    }
-    let mut text = start_text(kind, fields);
+    let mut text = start_text(kind, numbers);
     text.push(b'\n');
-    Some(text)
+    text
 }
 
-// The filled line of a kind with these numbers; none where there is no such line.
-pub(crate) fn write_numbers(kind: u8, fields: &[u32], reply: Reply) -> Option<Text>
-    ensures { WrittenAs result (FilledLine kind fields.now reply.number reply.result) }
+// The text of a filled line of a kind with these numbers.
+pub(crate) fn filled_text(kind: u8, numbers: &[u32], reply: Reply) -> Text
+    ensures { text_of result ≡ cut (filled_line kind numbers.now reply.number reply.result) }
 {
-    if !is_known(Sort::Filled, kind, fields.len()) || !are_short(fields) || !is_short(reply) {
-        return None;
-    }
-    let mut text = start_text(kind, fields);
+    let mut text = start_text(kind, numbers);
     push_answer(&mut text, reply);
-    Some(text)
+    text
 }

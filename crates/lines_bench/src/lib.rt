@@ -2,7 +2,7 @@
 #![tactic(auto)]
 
 use draws::Reply;
-use lines::{Text, fill, fill_faulty, read_input};
+use lines::{Line, Text, fill, fill_faulty, number, read_input};
 
 // A sum over the bytes in which each counts as often as its place says: the sums of the last bytes, all together.
 fn checksum(bytes: &[u8]) -> u64 {
@@ -16,10 +16,94 @@ fn checksum(bytes: &[u8]) -> u64 {
 // The largest number of an archive line.
 const LARGEST: u32 = 99_999_999;
 
-// Makes the text the line's filled line, with result `res`, and answers whether there is such a line.
-fn is_answered(text: &mut Text, line: &[u8], res: u32) -> bool {
+// The sum of the numbers of some fields.
+fn sum(fields: &[&[u8]]) -> u64 {
+    fields.iter().fold(0u64, |sum, field| {
+        sum.wrapping_add(number(*field).map_or(0, u64::from))
+    })
+}
+
+// The sum of the numbers of a line.
+fn sum_of(line: &Line<'_>) -> u64 {
+    match *line {
+        Line::Open {
+            book,
+            day,
+            size,
+            block,
+        } => sum(&[book, day, size, block]),
+        Line::Account {
+            participant,
+            account_type,
+        } => sum(&[participant, account_type]),
+        Line::Series {
+            right,
+            strike,
+            expiry,
+        } => sum(&[right, strike, expiry]),
+        Line::Trade {
+            series,
+            buyer,
+            buyer_effect,
+            seller,
+            seller_effect,
+            quantity,
+            price,
+        } => sum(&[
+            series,
+            buyer,
+            buyer_effect,
+            seller,
+            seller_effect,
+            quantity,
+            price,
+        ]),
+        Line::TradeTransfer { leg, account } => sum(&[leg, account]),
+        Line::GiveUp { leg, participant } => sum(&[leg, participant]),
+        Line::TakeUp {
+            leg,
+            answer,
+            account,
+        } => sum(&[leg, answer, account]),
+        Line::PositionTransfer {
+            from,
+            to,
+            series,
+            side,
+            quantity,
+        } => sum(&[from, to, series, side, quantity]),
+        Line::Request {
+            account,
+            series,
+            quantity,
+        } => sum(&[account, series, quantity]),
+        Line::Reject { request } => sum(&[request]),
+        Line::Criterion {
+            account,
+            right,
+            form,
+            value,
+        } => sum(&[account, right, form, value]),
+        Line::Denial {
+            account,
+            series,
+            quantity,
+        } => sum(&[account, series, quantity]),
+        Line::FixingPrice { price } => sum(&[price]),
+        Line::Lodge { account, shares } => sum(&[account, shares]),
+        Line::Withdraw { account, shares } => sum(&[account, shares]),
+        Line::TapeNumber { number } => sum(&[number]),
+        Line::NextDay { day } => sum(&[day]),
+        Line::CloseTrading | Line::Cut | Line::Assignment | Line::Statement => 0,
+    }
+}
+
+// Makes the text the line's filled line, with result `res`, and answers the sum of the line's numbers; none where there
+// is no such line.
+fn filled(text: &mut Text, line: &[u8], res: u32) -> Option<u64> {
     match read_input(line) {
-        Ok(_read) => {
+        Ok(read) => {
+            let numbers = sum_of(&read);
             fill(
                 text,
                 line,
@@ -28,24 +112,30 @@ fn is_answered(text: &mut Text, line: &[u8], res: u32) -> bool {
                     result: res,
                 },
             );
-            res <= LARGEST
+            (res <= LARGEST).then_some(numbers)
         }
         Err(fault) => {
             fill_faulty(text, fault.start);
-            true
+            Some(0)
         }
     }
 }
 
-// Reads every line of the buffer as an input line, writes it filled, and sums up what was written.
+// Reads every line of the buffer as an input line, writes it filled, and sums up its numbers and what was written.
 #[unsafe(no_mangle)]
 pub extern "C" fn lines_bench(buffer: &[u8], res: u32) -> u64 {
     let mut text = Text::new();
-    let mut sum: u64 = 0;
+    let mut all: u64 = 0;
     for line in buffer.split_inclusive(|b| *b == b'\n') {
-        if line.ends_with(b"\n") && is_answered(&mut text, line, res) {
-            sum = sum.wrapping_mul(31).wrapping_add(checksum(text.as_bytes()));
+        if !line.ends_with(b"\n") {
+            continue;
+        }
+        if let Some(numbers) = filled(&mut text, line, res) {
+            all = all
+                .wrapping_mul(31)
+                .wrapping_add(checksum(text.as_bytes()))
+                .wrapping_add(numbers);
         }
     }
-    sum
+    all
 }

@@ -1,8 +1,5 @@
-use Rattle.std.proofs.Common.{◌∙◌}
-use Rattle.lines.proofs.Rewriting.{input_is}
+use Rattle.lines.proofs.Rewriting.{input_rewrites}
 use Rattle.lines.proofs.again.rewrite_input.Goals as goal
 
-pub unreachable-requires-in_default-write_input_numbers :
-    goal.unreachable-requires-in_default-write_input_numbers
-unreachable-requires-in_default-write_input_numbers c =
-    c.in_default-write_input_numbers.ensures _ (input_is _ c.in_ok-read.read _ _ c.in_ok-read.ensures c.kind-kind.ensures (c.as_slice.ensures ∙ c.in-Some.ensures.1))
+pub returns : goal.returns
+returns c = input_rewrites _ c.in_ok-read.read _ c.in_ok-read.ensures c.kind-kind.ensures c.in-Some.ensures.1 (rw c.as_slice.ensures at c.input_text.ensures)

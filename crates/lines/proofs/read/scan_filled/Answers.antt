@@ -1,15 +1,15 @@
-use Rattle.std.proofs.Common.{sym, subst}
-use Rattle.std.proofs.lemmas.Result.{MatchResult-weaker}
-use Rattle.lines.specs.Kinds.{filled_kinds}
-use Rattle.lines.specs.Grammar.{StartRead, answer}
+use Rattle.std.proofs.lemmas.Result.{err_from_is_err_and}
+use Rattle.lines.specs.declared.kinds.Sort.TheVariants.{Filled}
+use Rattle.lines.specs.Grammar.{answer}
 use Rattle.lines.proofs.Steps.{stuck_after, answer_delim}
-use Rattle.lines.specs.Parts.{kind_in, parts_in}
-use Rattle.lines.proofs.Tops.{filled_read}
+use Rattle.lines.proofs.Tops.{start_made, filled_read}
 use Rattle.lines.proofs.read.scan_filled.Goals as goal
 
+pub returns-in_err-reply : goal.returns-in_err-reply
+returns-in_err-reply c =
+    let p = err_from_is_err_and c.from_residual-in_err-reply.result c.from_residual-in_err-reply.ensures.1 in
+    let start = c.in_ok-head.ensures in
+    rw (p.1, p.2, start.split) (stuck_after _ _ _ _ _ _ (start.reached answer answer_delim) c.in_err-reply.ensures)
+
 pub returns : goal.returns
-returns c =
-    let start = c.in_ok-read.ensures in
-    MatchResult-weaker c.with_answer.result c.with_answer.ensures
-    (λ f h. filled_read _ _ f (subst (λ l. StartRead filled_kinds c.args.line.now (kind_in l) (parts_in l) c.in_ok-read.end.now) (sym h.0) start) h.1)
-    (λ left st. rw start.split (stuck_after _ _ _ _ _ left (start.reached answer answer_delim) st))
+returns c = filled_read _ _ _ (start_made Filled _ _ _ _ _ _ c.in_ok-head.ensures c.line_of.ensures) c.in_ok-reply.ensures

@@ -12,9 +12,11 @@ returns c =
     let mark = 32 ∷ 58 ∷ 32 ∷ [] in
     let first = rw c.from.ensures at c.push_number.ensures in
     let second = rw c.from-2.ensures at c.push_number-2.ensures in
-    let reply = cut_more 170 _ _ old mark a c.push_all.ensures first in
-    let blank = cut_more 170 _ _ old (mark ++ a) (32 ∷ []) reply c.push.ensures in
+    let colon = cut_more 170 _ _ old (32 ∷ []) (58 ∷ []) c.push.ensures c.push-2.ensures in
+    let opened = cut_more 170 _ _ old (32 ∷ 58 ∷ []) (32 ∷ []) colon c.push-3.ensures in
+    let reply = cut_more 170 _ _ old mark a opened first in
+    let blank = cut_more 170 _ _ old (mark ++ a) (32 ∷ []) reply c.push-4.ensures in
     let result = cut_more 170 _ _ old ((mark ++ a) ++ (32 ∷ [])) b blank second in
-    let all = cut_more 170 _ _ old (((mark ++ a) ++ (32 ∷ [])) ++ b) (10 ∷ []) result c.push-2.ensures in
+    let all = cut_more 170 _ _ old (((mark ++ a) ++ (32 ∷ [])) ++ b) (10 ∷ []) result c.push-5.ensures in
     let same : (((mark ++ a) ++ (32 ∷ [])) ++ b) ++ (10 ∷ []) ≡ answer_text c.args.reply.number c.args.reply.result = simp append_assoc in
     all ∙ ap (λ t. cut (old ++ t)) same
