@@ -88,3 +88,20 @@ fn keeps_at_most_1024_numbers(rt: HostRuntime) -> Result<(), Fail> {
     text.push_str(" 1")?;
     refused(&rt, heap, text.as_str(), "line 1: more than 1,024 numbers")
 }
+
+#[test]
+fn passes_over_a_line_of_blanks(rt: HostRuntime) -> Result<(), Fail> {
+    let heap = rt.alloc();
+    let order = Order::parse(
+        heap,
+        "shorts 5\n   \n \t \nexercised 1\n  # no\nblock 3\ntape 0\n",
+    )?;
+    assert_eq!(rt; order.shorts.as_slice(), [5].as_slice());
+    assert_eq!(rt; order.block, 3);
+    refused(
+        &rt,
+        heap,
+        "   \nshorts 5\n  \nblock 3\n",
+        "line 4: expected the line 'exercised'",
+    )
+}
