@@ -1,3 +1,4 @@
+ghost use Rattle.std.specs.Prelude.{◌≤◌};
 ghost use Rattle.daybook.specs.Ends.{EndsAt};
 
 use host::Host;
@@ -31,17 +32,28 @@ fn line_end(bytes: &[u8]) -> Option<usize>
 }
 
 impl Answering {
+    // Writes so many statement lines, from the first place on. Not inlined, so that no other line's answer has their
+    // texts in its frame.
+    #[inline(never)]
+    fn write_statement(&mut self, lines: usize) -> io::Result<()>
+        requires { lines ≤ 256 }
+    {
+        // Kept: the host's promise is of one place; an iterator would be a second way to the same lines.
+        for i in 0..lines {
+            let Some(statement) = self.host.statement(i) else {
+                unreachable!()
+            };
+            self.out.write_all(statement.as_bytes())?;
+        }
+        Ok(())
+    }
+
     // Writes the answer to one line.
     fn answer(&mut self, line: &[u8]) -> io::Result<()> {
         let statements = self.host.answer_into(line, &mut self.filled);
         self.out.write_all(self.filled.as_bytes())?;
-        // Kept: the host's promise is of one place; an iterator would be a second way to the same lines.
-        for i in 0..statements {
-            let statement = self
-                .host
-                .statement(i)
-                .ok_or_else(|| io::Error::other("a statement line is too long"))?;
-            self.out.write_all(statement.as_bytes())?;
+        if statements > 0 {
+            self.write_statement(statements)?;
         }
         Ok(())
     }

@@ -1,5 +1,6 @@
 // Days of one book, line by line.
 use host::Host;
+use lines::Text;
 use std::process::Abort;
 use std::test::Fail;
 
@@ -285,12 +286,12 @@ const LAST_DAYS: [Row; 31] = [
 
 // The line is answered with just that text; or what else there is.
 fn answers(host: &mut Host, line: &[u8], expected: &[u8]) -> Result<(), &'static str> {
-    let answered = host.answer(line);
-    let filled = answered.text.ok_or("no filled line")?;
+    let mut filled = Text::new();
+    let statements = host.answer_into(line, &mut filled);
     let mut rest = expected
         .strip_prefix(filled.as_bytes())
         .ok_or("another filled line")?;
-    for i in 0..answered.statements {
+    for i in 0..statements {
         let statement = host.statement(i).ok_or("no statement line")?;
         rest = rest
             .strip_prefix(statement.as_bytes())

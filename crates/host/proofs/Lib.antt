@@ -1,3 +1,6 @@
 pub mod Firsts
-pub mod Performing
+pub mod Digits
+pub mod ByKind
+pub mod Fitting
+pub mod Following
 pub mod Answering

@@ -1,5 +1,5 @@
 pub mod Numbers
-pub mod Calls
+pub mod Instructions
 pub mod Steps
 pub mod Hosts
 pub mod Places

@@ -1,19 +1,21 @@
 ghost use Rattle.std.specs.Prelude.{◌≡◌, Some};
-ghost use Rattle.register.specs.Register.{replied, Brief};
+ghost use Rattle.draws.specs.Replies.{replied};
+ghost use Rattle.ledger.specs.Replies.{reply_of};
+ghost use Rattle.register.specs.Register.{Brief};
 ghost use Rattle.host.specs.Numbers.{unread_of};
 ghost use Rattle.host.specs.Steps.{call_step};
 
+use crate::places::Places;
 use crate::unread::Unread;
 use book::{Book, Pass};
 use draws::{Draws, Reply, Tape};
 use ledger::Refusal;
 use register::{Call, Done, Opening, perform};
-use settlement::Line;
 
-// Reply and result of an answer.
+// Number and result of an answer.
 // Kept: neither the result nor the reply is this crate's type, so this is no From.
 pub(crate) fn reply_of(answer: Result<u32, Refusal>) -> Reply
-    ensures { result ≡ replied answer }
+    ensures { result ≡ replied reply_of answer }
 {
     match answer {
         Ok(result) => Reply { number: 0, result },
@@ -29,26 +31,28 @@ pub(crate) fn idle() -> Book {
         size: 1,
         block: 1,
     };
-    let Ok((book, _)) = Book::open(&first) else {
-        unreachable()
+    let Ok((book, _)) = register::open(&first) else {
+        unreachable!()
     };
     book
 }
 
 // Makes a call of the open book, with the pass that is good then: an assignment reads its numbers from the unread ones,
 // a statement is written into the places.
+#[tactic(auto, using(crate::proofs::Fitting::written_fits))]
 pub(crate) fn make(
     book: &mut Book,
     pass: Pass,
     unread: &mut Unread,
-    places: &mut [Line; 256],
+    places: &mut Places,
     call: &Call,
 ) -> Done
-    ensures step { record { reply = replied result.reply; after = record { desk = Some (book.new.state, result.pass); unread = unread_of unread.new; places = places.new } } ≡ call_step (book.old.state, pass) (unread_of unread.old) places.old call.now }
-    ensures brief { Brief (replied result.reply) }
+    ensures reply { replied reply_of result.reply ≡ (call_step (book.old.state, pass) (unread_of unread.old) places.old.lines call.now).reply }
+    ensures after { record { desk = Some (book.new.state, result.pass); unread = unread_of unread.new; places = places.new.lines } ≡ (call_step (book.old.state, pass) (unread_of unread.old) places.old.lines call.now).after }
+    ensures brief { Brief (replied reply_of result.reply) }
 {
     let mut source = Tape::new(unread.numbers());
-    let done = perform(book, &mut source, places, pass, call);
+    let done = perform(book, &mut source, &mut places.lines, pass, call);
     let left = source.supply();
     unread.keep_last(left);
     done

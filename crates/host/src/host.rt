@@ -1,56 +1,50 @@
-// Kept: codes of kinds come as numbers from `read_numbers`, and `call_of` and one rule of this file read them.
-ghost use Rattle.std.specs.Prelude.{◌≡◌, ℕ, ◌<◌, ◌≤◌, List, [], replicate, None};
+ghost use Rattle.std.specs.Prelude.{◌≡◌, ℕ, ◌<◌, ◌≤◌, List, [], replicate, None, IsSomeAnd};
+ghost use Rattle.std.specs.List.{AllByRecursion};
+ghost use Rattle.draws.specs.Replies.{replied};
+ghost use Rattle.ledger.specs.Replies.{reply_of};
 ghost use Rattle.register.specs.declared.calls.Call.TheVariants.{Open};
-ghost use Rattle.register.specs.Register.{replied, Brief};
-ghost use Rattle.lines.specs.Lines.{InputLine, StatementText};
-ghost use Rattle.lines.specs.Texts.{cut, text_of, WrittenAs};
+ghost use Rattle.register.specs.Register.{Brief};
+ghost use Rattle.lines.specs.Kinds.{Short};
+ghost use Rattle.lines.specs.Lines.{statement_line, IsInput, LongestStart};
+ghost use Rattle.lines.specs.Reads.{ReadsInput};
+ghost use Rattle.lines.specs.Texts.{cut, text_of};
 ghost use Rattle.host.specs.Numbers.{unread_of};
 ghost use Rattle.host.specs.Places.{empty_line, numbers_at};
-ghost use Rattle.host.specs.Steps.{start_step, make_step, host_step};
-ghost use Rattle.host.specs.Hosts.{shown, statements_after, FillsText, Answers, AnswersText};
+ghost use Rattle.host.specs.Steps.{start_step, make_step, instruction_step};
+ghost use Rattle.host.specs.Hosts.{shown, statements_after, Answers};
 
-use crate::calls::{at, call_of};
 use crate::desk::{idle, make, reply_of};
-use crate::places::{NO_LINE, text_at};
+use crate::instruction::{Instruction, instruction_of};
+use crate::places::Places;
 use crate::unread::Unread;
 use book::{Book, InputPass, Pass};
 use ledger::Refusal;
-use lines::{Text, fill, fill_faulty, read_numbers};
+use lines::{Line, Text, fill, fill_faulty, read_input};
 use register::{Call, Done, Opening};
-use settlement::Line;
 
-// A book with the pass that is good now (without a pass no book is open), the tape numbers that no assignment has read,
-// and the places of a statement. The pass leaves its place while a call is made.
+/// A book with the pass that is good now (without a pass no book is open), the tape numbers that no assignment has
+/// read, and the places of a statement. The pass leaves its place while a call is made.
 // Kept: Pass goes by value into each call; Option<(Book, Pass)> moved 40 KB with it, and stood at 0.05 of plain Rust.
 #[derive(Drop)]
 pub struct Host {
     book: Book,
     pass: Option<Pass>,
     unread: Unread,
-    places: [Line; 256],
+    places: Places,
 }
 
-// The filled line, and how many statement lines follow it.
-// Kept: an Option by its promise, though it is always Some; `answer_into` has none.
-#[derive(Clone, Copy)]
-pub struct Answered {
-    pub text: Option<Text>,
-    pub statements: usize,
-}
-
-// How many statement lines follow a line of that kind with that answer.
-fn statements_after(kind: u8, answer: Result<u32, Refusal>) -> usize
-    ensures { result ≡ statements_after kind (replied answer) }
+// How many statement lines follow an instruction with that answer.
+fn statements_after(instruction: &Instruction, answer: Result<u32, Refusal>) -> usize
+    ensures { result ≡ statements_after instruction.now (replied reply_of answer) }
 {
-    match answer {
-        Ok(count) if kind == 31 => count as usize,
+    match (instruction, answer) {
+        (Instruction::OfBook(Call::GiveStatement), Ok(count)) => count as usize,
         _ => 0,
     }
 }
 
-// Kept: fields of a read line, its kind and its numbers, as `call_of` has them.
 impl Host {
-    // No book and no tape number.
+    /// No book, no tape number, and nothing in the places.
     pub fn new() -> Host
         ensures desk { (shown result).desk ≡ None }
         ensures unread { (shown result).unread ≡ [] }
@@ -60,7 +54,7 @@ impl Host {
             book: idle(),
             pass: None,
             unread: Unread::new(),
-            places: [NO_LINE; 256],
+            places: Places::new(),
         }
     }
 
@@ -69,11 +63,11 @@ impl Host {
     #[inline(never)]
     fn open(&mut self, o: &Opening) -> Result<u32, Refusal>
         requires { self.old.pass ≡ None }
-        ensures reply { replied result ≡ (start_step (unread_of self.old.unread) self.old.places (Open o.now)).reply }
-        ensures brief { Brief (replied result) }
-        ensures after { shown self.new ≡ (start_step (unread_of self.old.unread) self.old.places (Open o.now)).after }
+        ensures reply { replied reply_of result ≡ (start_step (unread_of self.old.unread) self.old.places.lines (Open o.now)).reply }
+        ensures brief { Brief (replied reply_of result) }
+        ensures after { shown self.new ≡ (start_step (unread_of self.old.unread) self.old.places.lines (Open o.now)).after }
     {
-        let (book, pass) = Book::open(o)?;
+        let (book, pass) = register::open(o)?;
         self.book = book;
         self.pass = Some(Pass::ForInput(pass));
         Ok(0)
@@ -82,9 +76,9 @@ impl Host {
     // Makes a call where no book is open: only an opening can be accepted.
     fn start(&mut self, call: &Call) -> Result<u32, Refusal>
         requires { self.old.pass ≡ None }
-        ensures reply { replied result ≡ (start_step (unread_of self.old.unread) self.old.places call.now).reply }
-        ensures brief { Brief (replied result) }
-        ensures after { shown self.new ≡ (start_step (unread_of self.old.unread) self.old.places call.now).after }
+        ensures reply { replied reply_of result ≡ (start_step (unread_of self.old.unread) self.old.places.lines call.now).reply }
+        ensures brief { Brief (replied reply_of result) }
+        ensures after { shown self.new ≡ (start_step (unread_of self.old.unread) self.old.places.lines call.now).after }
     {
         match call {
             Call::Open(o) => self.open(o),
@@ -94,8 +88,8 @@ impl Host {
 
     // Makes a call.
     fn make(&mut self, call: &Call) -> Result<u32, Refusal>
-        ensures reply { replied result ≡ (make_step (shown self.old) call.now).reply }
-        ensures brief { Brief (replied result) }
+        ensures reply { replied reply_of result ≡ (make_step (shown self.old) call.now).reply }
+        ensures brief { Brief (replied reply_of result) }
         ensures after { shown self.new ≡ (make_step (shown self.old) call.now).after }
     {
         let Some(pass) = self.pass.take() else {
@@ -112,63 +106,63 @@ impl Host {
         reply
     }
 
-    // Takes a tape number, or makes a call.
-    fn take(&mut self, kind: u8, numbers: &[u32]) -> Result<u32, Refusal>
-        ensures reply { replied result ≡ (host_step (shown self.old) kind numbers.now).reply }
-        ensures brief { Brief (replied result) }
-        ensures after { shown self.new ≡ (host_step (shown self.old) kind numbers.now).after }
+    // Makes a call, or takes a tape number.
+    fn take(&mut self, instruction: &Instruction) -> Result<u32, Refusal>
+        ensures reply { replied reply_of result ≡ (instruction_step (shown self.old) instruction.now).reply }
+        ensures brief { Brief (replied reply_of result) }
+        ensures after { shown self.new ≡ (instruction_step (shown self.old) instruction.now).after }
     {
-        match call_of(kind, numbers) {
-            Some(call) => self.make(&call),
-            None => self.unread.push(at(numbers, 0)),
+        match instruction {
+            Instruction::OfBook(call) => self.make(call),
+            Instruction::TapeNumber(number) => self.unread.push(*number),
         }
     }
 
-    // Answers a line that was read as its kind and numbers.
-    fn answer_read(&mut self, kind: u8, numbers: &[u32], line: &[u8], text: &mut Text) -> usize
-        requires { InputLine kind numbers.now line.now }
-        ensures { FillsText (shown self.old) kind numbers.now (text_of text.new) result (shown self.new) }
+    // Answers a line that was read as an input line.
+    #[tactic(auto, using(crate::proofs::Following::few_follow))]
+    fn answer_read(&mut self, read: &Line<'_>, line: &[u8], text: &mut Text) -> usize
+        requires { ReadsInput line.now read.now }
+        ensures whole { Answers (shown self.old) line.now (text_of text.new) result (shown self.new) }
+        ensures begun { (w : List ℕ) → cut w ≡ line.now → Answers (shown self.old) w (text_of text.new) result (shown self.new) }
+        ensures few { result ≤ 256 }
     {
-        let answer = self.take(kind, numbers);
+        let instruction = instruction_of(read);
+        let answer = self.take(&instruction);
         fill(text, line, reply_of(answer));
-        statements_after(kind, answer)
+        statements_after(&instruction, answer)
     }
 
-    // Answers an input line, or whatever bytes stand for one.
-    #[tactic(auto, using(crate::proofs::Answering::given_back))]
-    pub fn answer(&mut self, line: &[u8]) -> Answered
-        ensures { Answers (shown self.old) line.now result (shown self.new) }
+    // Answers bytes that are no input line, by the length of their longest start that begins one.
+    fn answer_faulty(&self, start: u32, line: &[u8], text: &mut Text) -> usize
+        requires { LongestStart IsInput line.now start × (start ≤ 66) }
+        ensures whole { Answers (shown self.now) line.now (text_of text.new) result (shown self.now) }
+        ensures begun { (w : List ℕ) → cut w ≡ line.now → Answers (shown self.now) w (text_of text.new) result (shown self.now) }
+        ensures few { result ≤ 256 }
     {
-        let mut text = Text::new();
-        let statements = self.answer_into(line, &mut text);
-        Answered {
-            text: Some(text),
-            statements,
-        }
+        fill_faulty(text, start);
+        0
     }
 
-    // The same in a text that the caller lends: it becomes the filled line. The answer is how many statement lines follow
-    // it. A line of which only as many bytes are given as a text holds has the same answer.
-    #[tactic(auto, using(crate::proofs::Answering::read_answers, crate::proofs::Answering::faulty_answers, crate::proofs::Answering::faulty_begun))]
+    /// Answers an input line, or whatever bytes stand for one: the text becomes the filled line, and the result says how
+    /// many statement lines follow it, which stand in the places from the first on. A line of which only as many bytes
+    /// are given as a text holds has the same answer.
     pub fn answer_into(&mut self, line: &[u8], text: &mut Text) -> usize
-        ensures whole { AnswersText (shown self.old) line.now (text_of text.new) result (shown self.new) }
-        ensures begun { (w : List ℕ) → cut w ≡ line.now → AnswersText (shown self.old) w (text_of text.new) result (shown self.new) }
+        ensures whole { Answers (shown self.old) line.now (text_of text.new) result (shown self.new) }
+        ensures begun { (w : List ℕ) → cut w ≡ line.now → Answers (shown self.old) w (text_of text.new) result (shown self.new) }
+        ensures few { result ≤ 256 }
     {
-        let mut out = [0; 7];
-        match read_numbers(line, &mut out) {
-            Ok((kind, numbers)) => self.answer_read(kind, numbers, line, text),
-            Err(faulty) => {
-                fill_faulty(text, faulty.start);
-                0
-            }
+        match read_input(line) {
+            Ok(read) => self.answer_read(&read, line, text),
+            Err(faulty) => self.answer_faulty(faulty.start, line, text),
         }
     }
 
-    // The statement line at a place, counted from 0; none where there is no such place.
+    /// The statement line at a place, counted from 0; none where there is no such place.
     pub fn statement(&self, i: usize) -> Option<Text>
-        ensures here { i < 256 → WrittenAs result (StatementText (numbers_at self.now.places i)) }
+        ensures here { i < 256 → IsSomeAnd result (λ t. text_of t ≡ statement_line (numbers_at (shown self.now).places i)) }
+        ensures short { AllByRecursion (Short 16) (numbers_at (shown self.now).places i) }
         ensures past { 256 ≤ i → result ≡ None }
     {
-        text_at(&self.places, i)
+        self.places.text_at(i)
     }
 }

@@ -1,15 +1,17 @@
-ghost use Rattle.std.specs.Prelude.{◌≡◌, ◌<◌, ◌≤◌, None};
-ghost use Rattle.lines.specs.Lines.{StatementText};
-ghost use Rattle.statements.specs.Statements.{values_of};
-ghost use Rattle.lines.specs.Texts.{WrittenAs};
-ghost use Rattle.host.specs.Places.{line_numbers, numbers_at};
+ghost use Rattle.std.specs.Prelude.{◌≡◌, ◌<◌, ◌≤◌, None, IsSomeAnd, replicate};
+ghost use Rattle.std.specs.List.{All, AllByRecursion};
+ghost use Rattle.register.specs.Register.{Fits};
+ghost use Rattle.lines.specs.Kinds.{Short};
+ghost use Rattle.lines.specs.Lines.{statement_line};
+ghost use Rattle.lines.specs.Texts.{text_of};
+ghost use Rattle.lines.specs.Statements.{values_of};
+ghost use Rattle.host.specs.Places.{empty_line, line_numbers, numbers_at};
 
-use lines::Text;
+use lines::{StatementLine, Text, write_statement};
 use settlement::{Line, Method, Role};
-use statements::{StatementLine, write_statement};
 
 // A place with nothing in it.
-pub(crate) const NO_LINE: Line = Line {
+const NO_LINE: Line = Line {
     series: 0,
     account: 0,
     role: Role::Exerciser,
@@ -41,10 +43,34 @@ fn numbers_of(line: &Line) -> StatementLine
     }
 }
 
-// The text of the line at a place; none where there is no such place or a number is too long.
-pub(crate) fn text_at(lines: &[Line; 256], i: usize) -> Option<Text>
-    ensures here { i < 256 → WrittenAs result (StatementText (numbers_at lines.now i)) }
-    ensures past { 256 ≤ i → result ≡ None }
-{
-    write_statement(&numbers_of(lines.get(i)?))
+// The places of a statement. Each holds a line whose numbers fit the format, so that it can be written.
+#[derive(Drop)]
+pub struct Places {
+    pub(crate) lines: [Line; 256],
+    ghost fitting: { All Fits lines },
+}
+
+impl Places {
+    // Places with nothing in them.
+    pub(crate) fn new() -> Places
+        ensures { result.lines ≡ replicate 256 empty_line }
+    {
+        Places {
+            lines: [NO_LINE; 256],
+        }
+    }
+
+    // The text of the line at a place, counted from 0; none where there is no such place.
+    #[tactic(auto, using(crate::proofs::Fitting::short_at))]
+    pub(crate) fn text_at(&self, i: usize) -> Option<Text>
+        ensures here { i < 256 → IsSomeAnd result (λ t. text_of t ≡ statement_line (numbers_at self.now.lines i)) }
+        ensures short { AllByRecursion (Short 16) (numbers_at self.now.lines i) }
+        ensures past { 256 ≤ i → result ≡ None }
+    {
+        let line = self.lines.get(i)?;
+        let Some(text) = write_statement(&numbers_of(line)) else {
+            unreachable!()
+        };
+        Some(text)
+    }
 }

@@ -1,5 +1,6 @@
 ghost use Rattle.std.specs.Prelude.{◌≡◌, []};
-ghost use Rattle.register.specs.Register.{replied};
+ghost use Rattle.draws.specs.Replies.{replied};
+ghost use Rattle.ledger.specs.Replies.{reply_of};
 ghost use Rattle.host.specs.Numbers.{unread_of, number_reply, with_number, last};
 
 use few::Few;
@@ -31,7 +32,7 @@ impl Unread {
 
     // Takes one more number, if there is room.
     pub(crate) fn push(&mut self, number: u32) -> Result<u32, Refusal>
-        ensures reply { replied result ≡ number_reply (unread_of self.old) }
+        ensures reply { replied reply_of result ≡ number_reply (unread_of self.old) }
         ensures after { unread_of self.new ≡ with_number (unread_of self.old) number }
     {
         self.numbers
