@@ -4,9 +4,9 @@ use Rattle.std.proofs.lemmas.List.{ext_get_or, get_or-replicate, length-replicat
 use Rattle.std.proofs.lemmas.List.FromFn.{fill_by_all}
 use Rattle.std.proofs.lemmas.Bool.{cases_lt}
 use Rattle.draws.specs.Meaning.{Meaning, behind, behind_all}
-use Rattle.allocation.specs.Stretch.{share, less, unassigned}
+use Rattle.allocation.specs.Stretch.{share, less}
 use Rattle.allocation.specs.Assigned.{draws_needed, bounds, assigned_to, assigned_by}
-use Rattle.allocation.proofs.Places.{length_less, getd_less, length_unassigned}
+use Rattle.allocation.proofs.Places.{unassigned, length_less, getd_less, length_unassigned}
 use Rattle.allocation.proofs.Totals.{share_sum, share_le, sum_less}
 use Rattle.allocation.proofs.Needed.{needed_none, needed_more}
 
@@ -86,7 +86,7 @@ module _ (first : Meaning) (shorts : List ℕ) (exercised block : ℕ) (positive
         rw e)
         (cases_lt left block)
 
-    module _ (within : start < remaining) (assigned' : List ℕ) (size' : length assigned' ≡ length assigned) (got : (i : ℕ) → i < length shorts → get_or assigned' i 0 ≡ get_or assigned i 0 + share R start count i) where
+    module _ (within : start < remaining) (assigned' : List ℕ) (size' : length assigned' ≡ length shorts) (got : (i : ℕ) → i < length shorts → get_or assigned' i 0 ≡ get_or assigned i 0 + share R start count i) where
       within_r : start < sum R
       within_r = omega (arith, w.remains)
 
@@ -109,7 +109,7 @@ module _ (first : Meaning) (shorts : List ℕ) (exercised block : ℕ) (positive
 
       pub going_more : Going first (behind (sum R) m) shorts exercised block assigned' (remaining - count) (left - count)
       going_more = record {
-        size = size' ∙ w.size;
+        size = size';
         covered = λ i h.
             let k : i < length R = omega (arith, length_unassigned shorts assigned) in
             omega (arith, got i h, small i k, getd_less shorts (λ i. get_or assigned i 0) i h, w.covered i h);

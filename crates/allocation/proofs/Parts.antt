@@ -10,6 +10,11 @@ overlap a b c d = min b d - max a c
 unfoldable pub part : ℕ → ℕ → ℕ → ℕ → ℕ → ℕ
 part p s total start stop = overlap p (p + s) start stop + overlap (total + p) (total + p + s) start stop
 
+-- the window cut off at its start
+pub nothing : (p s total start stop : ℕ) → stop ≤ start → part p s total start stop ≡ 0
+unfolding part
+nothing p s total start stop h = omega arith
+
 -- the walk stands at p, on its first way down the list or on its second
 abbrev pub Stands : ℕ → ℕ → ℕ → Type 0
 Stands P p total = (P ≡ p) ⊎ (P ≡ total + p)

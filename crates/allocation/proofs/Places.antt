@@ -3,7 +3,11 @@ use Rattle.std.proofs.Common.{◌≡◌, ℕ, ◌+◌, ◌-◌, ◌<◌, ◌≤�
 use Rattle.std.proofs.lemmas.List.{take-take}
 use Rattle.std.proofs.lemmas.List.Sums.{sum_by_more, sum_by-take-le}
 use Rattle.std.proofs.lemmas.List.FromFn.{length-map-range_with_len, get_or-map-range_with_len}
-use Rattle.allocation.specs.Stretch.{ahead, less, unassigned}
+use Rattle.allocation.specs.Stretch.{ahead, less}
+
+-- the short contracts that are not assigned
+abbrev pub unassigned : List ℕ → List ℕ → List ℕ
+unassigned shorts assigned = less shorts (λ i. get_or assigned i 0)
 
 pub ahead_more : (xs : List ℕ) (i : ℕ) → i < length xs → ahead xs (i + 1) ≡ ahead xs i + get_or xs i 0
 ahead_more xs i h = sum_by_more (λ x. x) xs i 0 h

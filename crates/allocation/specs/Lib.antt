@@ -1,4 +1,5 @@
 pub mod Stretch
 pub mod Assigned
 pub mod Allocation
+pub mod Replies
 pub mod Laws

@@ -1,5 +1,5 @@
 -- One draw. The remaining short contracts lie in a list by account, and are numbered from 0 down the list.
-use Rattle.std.specs.Prelude.{◌≡◌, ℕ, zero, suc, ◌+◌, ◌-◌, ◌<◌, ◌≤◌, Bool, cond, List, map, length, take, sum, nat_lt, slice_index}
+use Rattle.std.specs.Prelude.{ℕ, zero, suc, ◌+◌, ◌-◌, Bool, cond, List, map, length, take, sum, nat_lt, slice_index}
 use Rattle.std.specs.List.{range_with_len}
 
 -- how far contract c lies down the list from the starting contract; behind the list's foot its top comes next
@@ -26,18 +26,3 @@ share shorts start count i = how_many (in_stretch (sum shorts) start count) (ahe
 -- what is left of each account's contracts when `taken` is gone
 abbrev pub less : List ℕ → (ℕ → ℕ) → List ℕ
 less shorts taken = map (λ i. slice_index shorts i - taken i) (range_with_len 0 (length shorts))
-
--- the short contracts that are not assigned
-abbrev pub unassigned : List ℕ → List ℕ → List ℕ
-unassigned shorts assigned = less shorts (λ i. slice_index assigned i)
-
--- the contracts that are not assigned have a stretch of `count` from `start` on
-pub record HasStretch (shorts assigned : List ℕ) (start count : ℕ) : Type 0 where
-  pub places : length assigned ≡ length shorts
-  pub covered : (i : ℕ) → i < length shorts → slice_index assigned i ≤ slice_index shorts i
-  pub within : start < sum (unassigned shorts assigned)
-  pub enough : count ≤ sum (unassigned shorts assigned)
-
--- each account is assigned its share of that stretch besides
-abbrev pub TakesStretch : List ℕ → List ℕ → List ℕ → ℕ → ℕ → Type 0
-TakesStretch shorts old new start count = (i : ℕ) → i < length shorts → slice_index new i ≡ slice_index old i + share (unassigned shorts old) start count i

@@ -4,9 +4,10 @@
 
 ghost use Rattle.std.specs.Prelude.{◌≡◌, ◌<◌, ◌≤◌, [], length, sum};
 ghost use Rattle.draws.specs.Meaning.{behind, behind_all};
-ghost use Rattle.allocation.specs.Stretch.{HasStretch, TakesStretch};
+ghost use Rattle.draws.specs.Replies.{replied};
 ghost use Rattle.allocation.specs.Assigned.{draws_needed, bounds, assigned_by};
 ghost use Rattle.allocation.specs.Allocation.{allocation};
+ghost use Rattle.allocation.specs.Replies.{reply_of};
 ghost use Rattle.allocation.specs.Laws.{AlwaysSettled, RestsOnAnswers, Worked, NothingExercised};
 
 use draws::Draws;
@@ -18,20 +19,20 @@ const CONTRACTS: u64 = 100_000;
 // The largest block.
 const BLOCK: u32 = 1_000;
 
-// Why nothing was assigned.
+/// Why nothing was assigned.
 #[derive(Clone, Copy, PartialEq, Eq, Debug)]
 pub enum Unassigned {
-    // The list for the assigned counts has another length than the list of shorts.
+    /// The list for the assigned counts has another length than the list of shorts.
     PlacesDiffer,
-    // More than 64 accounts.
+    /// More than 64 accounts.
     TooManyAccounts,
-    // More than 100,000 short contracts.
+    /// More than 100,000 short contracts.
     TooManyShorts,
-    // A block of 0 or of more than 1,000 contracts.
+    /// A block of 0 or of more than 1,000 contracts.
     BlockOutOfRange,
-    // More contracts exercised than are short.
+    /// More contracts exercised than are short.
     TooManyExercised,
-    // The source has fewer draws than are needed, which are these.
+    /// The source has fewer draws than are needed, which are these.
     DrawsShort(u32),
 }
 
@@ -43,7 +44,7 @@ fn total(shorts: &[u32]) -> u64
     shorts.iter().map(|count| u64::from(*count)).sum()
 }
 
-// The draws that so many exercised contracts take: those over the block, rounded up, and none for a block of 0.
+/// The draws that so many exercised contracts take: those over the block, rounded up, and none for a block of 0.
 pub fn draws_for(exercised: u32, block: u32) -> u32
     ensures { result ≡ draws_needed exercised block }
 {
@@ -96,33 +97,8 @@ fn draw_start<S: Draws>(source: &mut S, remaining: u32) -> u32
     source.draw(remaining).unwrap()
 }
 
-// Assigns the stretch of so many open contracts from the starting contract on: down the list of accounts, and on from
-// its top.
-#[tactic(auto, using(crate::proofs::Rounds::walk_ends))]
-fn take_stretch(shorts: &[u32], start: u32, count: u32, assigned: &mut [u32])
-    requires { HasStretch shorts.now assigned.old start count }
-    ensures { TakesStretch shorts.now assigned.old assigned.new start count }
-{
-    let mut skip = start;
-    let mut need = count;
-    // Kept: at most two rounds, left by the label as soon as nothing more is needed, as this project asks.
-    'walk: for _ in 0..2u8 {
-        // Kept: an index, since a proof learns nothing of what a zip with `iter_mut` writes.
-        for (i, short) in shorts.iter().enumerate() {
-            let open_contracts = short - assigned[i];
-            let passed = skip.min(open_contracts);
-            let taken = (open_contracts - passed).min(need);
-            skip -= passed;
-            assigned[i] += taken;
-            need -= taken;
-            if need == 0 {
-                break 'walk;
-            }
-        }
-    }
-}
-
 // Assigns the exercised contracts block by block.
+#[tactic(auto, using(crate::proofs::Parts::nothing))]
 fn assign<S: Draws>(
     source: &mut S,
     shorts: &[u32],
@@ -143,17 +119,35 @@ fn assign<S: Draws>(
     let mut remaining = total(shorts) as u32;
     let mut left = exercised;
     // Kept: what is left ends the loop, and gives the last block its size; a count of the draws would stand beside it.
-    while left > 0 {
+    'draws: while left > 0 {
         let start = draw_start(source, remaining);
         let count = block.min(left);
         remaining -= count;
         left -= count;
-        take_stretch(shorts, start, count, assigned);
+        let mut skip = start;
+        let mut need = count;
+        // Down the list of accounts, and on from its top.
+        for _ in 0..2u8 {
+            // Kept: an index, since a proof learns nothing of what a zip with `iter_mut` writes.
+            for (i, short) in shorts.iter().enumerate() {
+                let open_contracts = short - assigned[i];
+                let passed = skip.min(open_contracts);
+                let taken = (open_contracts - passed).min(need);
+                skip -= passed;
+                assigned[i] += taken;
+                need -= taken;
+                if need == 0 {
+                    continue 'draws;
+                }
+            }
+        }
+        prove!(need == 0);
     }
 }
 
-// Assigns the exercised contracts to the short contracts of the accounts, block by block, each block from a starting
-// contract that a draw picks, and answers how many draws that took; or assigns and draws nothing, and answers why.
+/// Assigns the exercised contracts to the short contracts of the accounts, block by block, each block from a starting
+/// contract that a draw picks, and answers how many draws that took; or assigns and draws nothing, and answers why.
+/// `shorts` has a count for each account, and so has `assigned`; all counts, and the block, are of contracts.
 pub fn allocate<S: Draws>(
     source: &mut S,
     shorts: &[u32],
@@ -162,6 +156,7 @@ pub fn allocate<S: Draws>(
     assigned: &mut [u32],
 ) -> Result<u32, Unassigned>
     ensures reply { result ≡ (allocation (S.meaning source.old) shorts.now exercised block assigned.old).reply }
+    ensures number { replied reply_of result ≡ replied reply_of (allocation (S.meaning source.old) shorts.now exercised block assigned.old).reply }
     ensures assigned { assigned.new ≡ (allocation (S.meaning source.old) shorts.now exercised block assigned.old).assigned }
     ensures source { S.meaning source.new ≡ (allocation (S.meaning source.old) shorts.now exercised block assigned.old).source }
     ensures settled { AlwaysSettled }

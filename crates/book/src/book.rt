@@ -3,7 +3,7 @@ ghost use Rattle.ledger.specs.declared.ledger.Ledger.{Ledger};
 use ledger::Ledger;
 use std::marker::Model;
 
-// A day book, which in contracts is its ledger.
+/// A day book, which in contracts is its ledger.
 #[derive(Drop)]
 pub struct Book {
     pub(crate) ledger: Ledger,

@@ -13,7 +13,10 @@ use ledger::{Ledger, Opening, PositionTransfer, Refusal, State, Trade};
 // Kept: fields of a call: a struct of two to four numbers would be made at each call and opened in each check.
 // Kept: an accepted call answers the archive's result, 0 where it makes nothing: so the register treats all alike.
 impl Book {
-    // Opens a book, with its first pass.
+    /// Opens a book, with its first pass.
+    ///
+    /// # Errors
+    /// `OutOfRange`.
     pub fn open(o: &Opening) -> Result<(Book, InputPass), Refusal>
         ensures reply { opened result ≡ open_call o.now }
         ensures number { replied reply_of (told (λ b. 0) result) ≡ replied reply_of (result_unless (open_refusal o.now) 0) }
@@ -27,7 +30,10 @@ impl Book {
         Ok((book, InputPass { number, day }))
     }
 
-    // Adds an account, and answers its number.
+    /// Adds an account of a participant (1 to 99) and a type by its code (1 to 4), and answers its number.
+    ///
+    /// # Errors
+    /// `PassMisfit`, `OutOfRange`, `Full`: the first that holds, as for each call below.
     pub fn account(&mut self, pass: &InputPass, participant: u32, code: u32) -> Result<u32, Refusal>
         ensures reply { result ≡ (account_call self.old.state pass.now participant code).reply }
         ensures number { replied reply_of result ≡ replied reply_of (account_call self.old.state pass.now participant code).reply }
@@ -38,7 +44,11 @@ impl Book {
         Ok(dealing::add_account(&mut self.ledger.state, participant, code))
     }
 
-    // Lists a series, and answers its number.
+    /// Lists a series, of calls (1) or puts (2), with its strike in thousandths of a dollar and the day of its expiry, and
+    /// answers its number.
+    ///
+    /// # Errors
+    /// `PassMisfit`, `OutOfRange`, `ListedAlready`, `Full`.
     pub fn series(
         &mut self,
         pass: &InputPass,
@@ -55,7 +65,10 @@ impl Book {
         Ok(dealing::add_series(&mut self.ledger.state, right, strike, expiry))
     }
 
-    // Books a trade, and answers the number of its first leg.
+    /// Books a trade, and answers the number of its first leg, the buyer's.
+    ///
+    /// # Errors
+    /// `PassMisfit`, `OutOfRange`, `NoAccount`, `NoSeries`, `Expired`, `TradingClosed`, `Full`, `TooMany`.
     pub fn trade(&mut self, pass: &InputPass, t: &Trade) -> Result<u32, Refusal>
         ensures reply { result ≡ (trade_call self.old.state pass.now t.now).reply }
         ensures number { replied reply_of result ≡ replied reply_of (trade_call self.old.state pass.now t.now).reply }
@@ -66,7 +79,10 @@ impl Book {
         Ok(dealing::book_trade(&mut self.ledger.state, t))
     }
 
-    // Transfers a free leg to another account of its participant.
+    /// Transfers a free leg to another account of its participant.
+    ///
+    /// # Errors
+    /// `PassMisfit`, `NoAccount`, `NoLeg`, `WrongAccount`, `LegHeld`, `TooFew`, `TooMany`.
     pub fn trade_transfer(
         &mut self,
         pass: &InputPass,
@@ -83,7 +99,10 @@ impl Book {
         Ok(0)
     }
 
-    // Holds a free leg for another participant.
+    /// Holds a free leg for another participant, who need not have an account.
+    ///
+    /// # Errors
+    /// `PassMisfit`, `OutOfRange`, `NoLeg`, `WrongAccount`, `LegHeld`.
     // Kept: admit, check, effect; one function with two closures is longer than the three lines.
     pub fn give_up(&mut self, pass: &InputPass, leg: u32, participant: u32) -> Result<u32, Refusal>
         ensures reply { result ≡ (give_up_call self.old.state pass.now leg participant).reply }
@@ -96,7 +115,11 @@ impl Book {
         Ok(0)
     }
 
-    // Confirms a held leg for an account of the participant it is held for (answer 1), or rejects it (answer 2).
+    /// Confirms a held leg for an account of the participant it is held for (answer 1), or rejects it (answer 2, with
+    /// account 0).
+    ///
+    /// # Errors
+    /// `PassMisfit`, `OutOfRange`, `NoAccount`, `NoLeg`, `LegFree`, `WrongAccount`, `TooFew`, `TooMany`.
     pub fn take_up(
         &mut self,
         pass: &InputPass,
@@ -114,7 +137,10 @@ impl Book {
         Ok(0)
     }
 
-    // Moves longs or shorts to another account of the participant.
+    /// Moves longs (side 1) or shorts (side 2) of a series to another account of the participant.
+    ///
+    /// # Errors
+    /// `PassMisfit`, `OutOfRange`, `NoAccount`, `NoSeries`, `Expired`, `WrongAccount`, `TooFew`.
     // Kept: as in `give_up`.
     pub fn position_transfer(
         &mut self,

@@ -11,7 +11,11 @@ use ledger::Refusal;
 // Kept: fields of a call: a struct of two to four numbers would be made at each call and opened in each check.
 // Kept: an accepted call answers the archive's result, 0 where it makes nothing: so the register treats all alike.
 impl Book {
-    // Asks for an exercise, and answers the request's number.
+    /// Asks for the exercise of so many contracts of a series, and answers the request's number.
+    ///
+    /// # Errors
+    /// `PassMisfit`, `OutOfRange`, `NoAccount`, `NoSeries`, `Expired`, `Full`: the first that holds, as for each call
+    /// below.
     pub fn request(
         &mut self,
         pass: &InputPass,
@@ -28,7 +32,10 @@ impl Book {
         Ok(exercise::add_request(&mut self.ledger.state, account, series, quantity))
     }
 
-    // Rejects a pending request.
+    /// Rejects a pending request.
+    ///
+    /// # Errors
+    /// `PassMisfit`, `NoRequest`.
     // Kept: as in `give_up`.
     pub fn reject_request(&mut self, pass: &InputPass, request: u32) -> Result<u32, Refusal>
         ensures reply { result ≡ (rejection_call self.old.state pass.now request).reply }
@@ -41,7 +48,11 @@ impl Book {
         Ok(0)
     }
 
-    // Denies so many contracts of a series that expires today to the exercise without a request.
+    /// Denies so many contracts of a series that expires today to the exercise without a request, in place of those
+    /// denied before.
+    ///
+    /// # Errors
+    /// `PassMisfit`, `OutOfRange`, `NoAccount`, `NoSeries`, `Expired`, `NotExpiring`.
     pub fn deny(
         &mut self,
         pass: &InputPass,
@@ -59,7 +70,11 @@ impl Book {
         Ok(0)
     }
 
-    // Sets the criterion of an account, or of the house (account 0), for calls or for puts.
+    /// Sets the criterion of an account, or of the house (account 0), for calls (1) or for puts (2): form 1 with
+    /// hundredths of a percent of the strike, form 2 with thousandths of a dollar, form 0 with 0 for the house's again.
+    ///
+    /// # Errors
+    /// `PassMisfit`, `OutOfRange`, `NoAccount`, `TradingClosed`.
     pub fn criterion(
         &mut self,
         pass: &InputPass,
@@ -78,7 +93,10 @@ impl Book {
         Ok(0)
     }
 
-    // Gives the fixing price.
+    /// Gives the fixing price, in thousandths of a dollar, in place of one given before.
+    ///
+    /// # Errors
+    /// `PassMisfit`, `OutOfRange`.
     pub fn fixing_price(&mut self, pass: &InputPass, price: u32) -> Result<u32, Refusal>
         ensures reply { result ≡ (fixing_call self.old.state pass.now price).reply }
         ensures number { replied reply_of result ≡ replied reply_of (fixing_call self.old.state pass.now price).reply }
@@ -90,7 +108,10 @@ impl Book {
         Ok(0)
     }
 
-    // Adds shares to an account's collateral.
+    /// Adds shares to an account's collateral.
+    ///
+    /// # Errors
+    /// `PassMisfit`, `OutOfRange`, `NoAccount`, `TooMany`.
     // Kept: as in `give_up`.
     pub fn lodge(&mut self, pass: &InputPass, account: u32, shares: u32) -> Result<u32, Refusal>
         ensures reply { result ≡ (lodge_call self.old.state pass.now account shares).reply }
@@ -103,7 +124,10 @@ impl Book {
         Ok(0)
     }
 
-    // Takes shares from it.
+    /// Takes shares from an account's collateral.
+    ///
+    /// # Errors
+    /// `PassMisfit`, `OutOfRange`, `NoAccount`, `TooFew`.
     // Kept: as in `give_up`.
     pub fn withdraw(&mut self, pass: &InputPass, account: u32, shares: u32) -> Result<u32, Refusal>
         ensures reply { result ≡ (withdrawal_call self.old.state pass.now account shares).reply }
@@ -116,7 +140,10 @@ impl Book {
         Ok(0)
     }
 
-    // Ends trading for the day.
+    /// Ends trades and criteria for the day; it may be done twice.
+    ///
+    /// # Errors
+    /// `PassMisfit`.
     pub fn close_trading(&mut self, pass: &InputPass) -> Result<u32, Refusal>
         ensures reply { result ≡ (closing_call self.old.state pass.now).reply }
         ensures number { replied reply_of result ≡ replied reply_of (closing_call self.old.state pass.now).reply }

@@ -5,6 +5,7 @@ ghost use Rattle.ledger.specs.Replies.{reply_of};
 ghost use Rattle.settlement.specs.Lines.{written};
 ghost use Rattle.dayend.specs.Cutoff.{cut};
 ghost use Rattle.dayend.specs.Assignment.{needed, assigning, assigned_state};
+ghost use Rattle.dayend.specs.Laws.{DaySettles, AssignmentRests};
 ghost use Rattle.dayend.specs.Statement.{places_needed};
 ghost use Rattle.dayend.specs.NextDay.{next_day};
 ghost use Rattle.book.specs.Stages.{handed, kept_or, result_unless, told, cut_refusal, cut_pass, assignment_refusal, assigned_pass, statement_refusal, lines_written, next_day_refusal, next_pass};
@@ -24,7 +25,10 @@ impl Book {
         dayend::check_cut(&self.ledger)
     }
 
-    // Ends the input stage: the pass is used up for a Cut pass, or handed back with the refusal.
+    /// Ends the input stage: the pass is used up for a Cut pass, or handed back with the refusal.
+    ///
+    /// # Errors
+    /// `PassMisfit`, `NoFixingPrice`: the first that holds, as for each call below.
     pub fn cut(&mut self, pass: InputPass) -> Result<CutPass, (InputPass, Refusal)>
         ensures reply { result ≡ handed (cut_refusal self.old.state pass) pass (cut_pass pass) }
         ensures number { replied (λ b. reply_of b.1) (told (λ p. 0) result) ≡ replied reply_of (result_unless (cut_refusal self.old.state pass) 0) }
@@ -47,8 +51,13 @@ impl Book {
         dayend::check_assignment(&self.ledger, source)
     }
 
-    // Exercises what is due and assigns it by draw, and answers the draws used with an Assigned pass, or hands the pass
-    // back with the refusal.
+    /// Exercises what is due and assigns it by draw, and answers the draws used with an Assigned pass, or hands the pass
+    /// back with the refusal. What is assigned rests on nothing of the source but its answers to the lists of bounds that
+    /// its supply allows.
+    ///
+    /// # Errors
+    /// `PassMisfit`, `DrawsShort` with the draws needed.
+    #[tactic(auto, using(dayend::proofs::Laws::day_settles, dayend::proofs::Laws::assignment_rests))]
     pub fn assign<S: Draws>(
         &mut self,
         source: &mut S,
@@ -58,6 +67,8 @@ impl Book {
         ensures number { replied (λ b. reply_of b.1) (told (λ b. b.1) result) ≡ replied reply_of (result_unless (assignment_refusal self.old.state pass (S.meaning source.old)) (needed self.old.state)) }
         ensures after { self.new.state ≡ kept_or (assignment_refusal self.old.state pass (S.meaning source.old)) self.old.state (assigned_state self.old.state (S.meaning source.old)) }
         ensures source { S.meaning source.new ≡ kept_or (assignment_refusal self.old.state pass (S.meaning source.old)) (S.meaning source.old) (assigning self.old.state (S.meaning source.old)).source }
+        ensures settles { DaySettles }
+        ensures rests { AssignmentRests }
     {
         // Kept: as in `cut`.
         if let Err(refusal) = self.check_assignment(&pass, source) {
@@ -68,7 +79,11 @@ impl Book {
         Ok((AssignedPass { number, day }, used))
     }
 
-    // Writes the statement into the list, from its first place on, and answers how many lines it has.
+    /// Writes the statement into the list, from its first place on, and answers how many lines it has. Places past it are
+    /// untouched.
+    ///
+    /// # Errors
+    /// `PassMisfit`, `StatementShort` with the places needed.
     pub fn statement(&self, pass: &AssignedPass, lines: &mut [Line]) -> Result<u32, Refusal>
         ensures reply { result ≡ result_unless (statement_refusal self.now.state pass.now (length lines.old)) (places_needed self.now.state) }
         ensures number { replied reply_of result ≡ replied reply_of (result_unless (statement_refusal self.now.state pass.now (length lines.old)) (places_needed self.now.state)) }
@@ -87,7 +102,10 @@ impl Book {
         dayend::check_next_day(&self.ledger.state, day)
     }
 
-    // Begins the next day: the pass is used up for an Input pass of that day, or handed back with the refusal.
+    /// Begins the next day: the pass is used up for an Input pass of that day, or handed back with the refusal.
+    ///
+    /// # Errors
+    /// `PassMisfit`, `OutOfRange`, `DayNotLater`.
     pub fn next_day(
         &mut self,
         pass: AssignedPass,

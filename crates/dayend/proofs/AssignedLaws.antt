@@ -75,7 +75,7 @@ module _ (s : State) (m : Meaning) (f : Facts s) (cut : s.stage ≡ Cut) (below 
   rows_size = rows_length s.terms s.previous s.day s.series.rows m shares ∙ f.tables.1.1
 
   -- past the table's end there is nothing
-  past : (i : ℕ) → 32 ≤ i → row (assigned_state s m) i ≡ past_series
+  pub past : (i : ℕ) → 32 ≤ i → row (assigned_state s m) i ≡ past_series
   past i h = get_or_past (assigning s m).rows i past_series (omega (arith, rows_size))
 
   pub assigned_balanced : (i : ℕ) → i < 32 → Balanced (cells_of (assigned_state s m) i)
@@ -105,7 +105,7 @@ module _ (s : State) (m : Meaning) (f : Facts s) (cut : s.stage ≡ Cut) (below 
   pub account_at : (k : ℕ) → k < 32 → get_or (assigned_state s m).accounts.rows k no_account ≡ with_collateral (get_or s.accounts.rows k no_account) (get_or (assigning s m).collateral k 0)
   account_at k lt = get_or-map-range_with_len (λ k. with_collateral (get_or s.accounts.rows k no_account) (get_or (assigning s m).collateral k 0)) 0 (length s.accounts.rows) k k no_account (omega (arith, f.tables.1.0)) (omega arith)
 
-  accounts_size : length (assigned_state s m).accounts.rows ≡ 32
+  pub accounts_size : length (assigned_state s m).accounts.rows ≡ 32
   accounts_size = length-map-range_with_len (λ k. with_collateral (get_or s.accounts.rows k no_account) (get_or (assigning s m).collateral k 0)) 0 (length s.accounts.rows) ∙ f.tables.1.0
 
   assigned_collateral : (k : ℕ) → (get_or (assigned_state s m).accounts.rows k no_account).collateral ≤ 99_999_999

@@ -3,5 +3,6 @@ pub mod CutSteps
 pub mod CutLaws
 pub mod AssignLaws
 pub mod AssignedLaws
+pub mod Laws
 pub mod StatementLaws
 pub mod NextDayLaws

@@ -2,3 +2,4 @@ pub mod Cutoff
 pub mod Assignment
 pub mod Statement
 pub mod NextDay
+pub mod Laws

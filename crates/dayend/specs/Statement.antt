@@ -1,9 +1,9 @@
 -- The statement: the lines of every series in rising number.
-use Rattle.std.specs.Prelude.{ℕ, ◌+◌, Bool, List, [], ◌∷◌, sum_by, nat_le, slice_index_or}
+use Rattle.std.specs.Prelude.{ℕ, ◌+◌, Bool, List, [], ◌∷◌, length, nat_le, slice_index_or}
 use Rattle.std.specs.List.{range_with_len, flat_map}
 use Rattle.settlement.specs.declared.line.Line.{Line}
 use Rattle.settlement.specs.declared.line.SeriesTerms.{SeriesTerms}
-use Rattle.settlement.specs.Lines.{series_lines, lines_needed}
+use Rattle.settlement.specs.Lines.{series_lines}
 use Rattle.ledger.specs.declared.refusal.Refusal.{Refusal}
 use Rattle.ledger.specs.declared.refusal.Refusal.TheVariants.{StatementShort}
 use Rattle.ledger.specs.declared.state.Series.{Series}
@@ -31,12 +31,9 @@ first_lines n size day rows = flat_map (lines_at size day rows) (range_with_len 
 abbrev pub statement_lines : State → List Line
 statement_lines s = first_lines 32 s.terms.size s.day s.series.rows
 
-abbrev pub rows_needed : List Series → ℕ
-rows_needed rows = sum_by (λ r. lines_needed r.cells) rows
-
--- the places that the statement needs
+-- the places that it needs
 abbrev pub places_needed : State → ℕ
-places_needed s = rows_needed s.series.rows
+places_needed s = length (statement_lines s)
 
 abbrev pub statement_checks : State → ℕ → List (Bool × Refusal)
 statement_checks s room = (nat_le (places_needed s) room, StatementShort (places_needed s)) ∷ []

@@ -3,6 +3,7 @@ ghost use Rattle.std.specs.Prelude.{◌≡◌, ◌≤◌};
 ghost use Rattle.draws.specs.Checks.{checked};
 ghost use Rattle.ledger.specs.declared.state.Stage.TheVariants.{Cut};
 ghost use Rattle.dayend.specs.Assignment.{needed, assignment_checks, RowsReady, assigned_rows, lodged_shares, with_shares, assigning, assigned_state};
+ghost use Rattle.dayend.specs.Laws.{DaySettles, AssignmentRests};
 
 use draws::Draws;
 use ledger::{Account, Ledger, Refusal, Series, Stage, State, Terms};
@@ -84,6 +85,8 @@ pub fn assign<S: Draws>(book: &mut Ledger, source: &mut S) -> u32
     ensures used { result ≡ needed book.old.state }
     ensures after { book.new.state ≡ assigned_state book.old.state (S.meaning source.old) }
     ensures source { S.meaning source.new ≡ (assigning book.old.state (S.meaning source.old)).source }
+    ensures settles { DaySettles }
+    ensures rests { AssignmentRests }
 {
     let used = needed(book);
     let mut shares = lodged_shares(&book.state.accounts.rows);

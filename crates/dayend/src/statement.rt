@@ -1,18 +1,25 @@
 // Kept: rows are numbered from 1.
 ghost use Rattle.std.specs.Prelude.{◌≡◌, ◌+◌, ◌≤◌, length};
 ghost use Rattle.draws.specs.Checks.{checked};
-ghost use Rattle.settlement.specs.Lines.{written};
+ghost use Rattle.settlement.specs.declared.line.SeriesTerms.{SeriesTerms};
+ghost use Rattle.settlement.specs.Lines.{series_lines, written};
 ghost use Rattle.dayend.specs.Statement.{statement_lines, places_needed, statement_checks};
 
 use ledger::{Ledger, Refusal, Series};
 use settlement::{Line, SeriesTerms, count_series, write_series};
 
+// How many lines a series of the book has, whatever its terms.
+fn count_row(row: &Series) -> usize
+    ensures { (t : SeriesTerms) → result ≡ length (series_lines t row.now.cells) }
+{
+    count_series(&row.cells)
+}
+
 // How many lines the statement has.
 fn places_needed(book: &Ledger) -> usize
     ensures { result ≡ places_needed book.now.state }
 {
-    let rows = &book.state.series.rows;
-    rows.iter().map(|row| count_series(&row.cells)).sum()
+    book.state.series.rows.iter().map(count_row).sum()
 }
 
 // What the lines of a series share.

@@ -16,7 +16,7 @@ use Rattle.ledger.specs.declared.state.State.{State}
 use Rattle.ledger.specs.declared.state.Trade.{Trade}
 use Rattle.ledger.specs.Tables.{cells_of, with_cells}
 use Rattle.ledger.specs.Lookups.{within, has_account, has_series}
-use Rattle.dealing.specs.Trades.{trade_in_range, trade_checks, bought_cells, fill_of, buyer_leg, seller_leg, traded}
+use Rattle.dealing.specs.Trades.{trade_in_range, trade_checks, bought_in, fill_of, buyer_leg, seller_leg, traded}
 use Rattle.ledger.specs.Sound.{Balanced, Waiting, ValidLeg, Facts}
 use Rattle.ledger.proofs.FactLaws.{Placed, within_parts, account_placed, series_placed}
 use Rattle.ledger.proofs.KeepLaws.{facts_cells, facts_legs, each_push}
@@ -50,6 +50,10 @@ quantity_small t h =
     let b = (and_parts (within t.seller_effect 1 2) _ a).1 in
     let q = (and_parts (within t.quantity 1 100_000) _ b).0 in
     (within_parts t.quantity 1 100_000 q).1
+
+-- the cells of the book when the buyer's leg is booked
+abbrev pub bought_cells : State → Trade → List Cell
+bought_cells s t = bought_in (cells_of s (t.series - 1)) t
 
 module _ (s : State) (t : Trade) (f : Facts s) (input : s.stage ≡ Input) (a : Admitted s t) where
   abbrev cells : List Cell

@@ -62,9 +62,6 @@ fill_in cells t = record {
 }
 
 -- the same in the cells of a book
-abbrev pub bought_cells : State → Trade → List Cell
-bought_cells s t = bought_in (cells_of s (t.series - 1)) t
-
 abbrev pub fill_of : State → Trade → Fill
 fill_of s t = fill_in (cells_of s (t.series - 1)) t
 

@@ -17,11 +17,3 @@ drawn n m = cond (n == 0) (Err ZeroBound) (cond (m.supply == 0) (Err NoSupply) (
 -- what the source means afterwards: a refused draw changes nothing
 abbrev pub after : ℕ → Meaning → Meaning
 after n m = cond (n == 0) m (cond (m.supply == 0) m (behind n m))
-
--- the same as numbers: reply 0 with the answer, else the refusal's
-abbrev pub replied : Result ℕ Refusal → Reply
-replied (Ok a) = record { number = 0; result = a }
-replied (Err r) = reply_of r
-
-abbrev pub draw_reply : ℕ → Meaning → Reply
-draw_reply n m = cond (n == 0) (record { number = 3; result = 0 }) (cond (m.supply == 0) (record { number = 16; result = 1 }) (record { number = 0; result = m.answer [] n }))

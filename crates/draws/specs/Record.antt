@@ -1,7 +1,6 @@
 -- The recorder: what its table holds, what it means, what a draw adds.
-use Rattle.std.specs.Prelude.{ℕ, ◌-◌, min, cond, List, [], ◌∷◌, ◌++◌, length, Ok, Err, Result, ◌==◌}
+use Rattle.std.specs.Prelude.{ℕ, ◌-◌, min, cond, List, [], ◌∷◌, ◌++◌, take, Ok, Err, Result, ◌==◌}
 use Rattle.std.proofs.Common.{arith}
-use Rattle.few.specs.Contents.{contents}
 use Rattle.draws.specs.declared.Refusal.{Refusal}
 use Rattle.draws.specs.declared.recorder.Pair.{Pair}
 use Rattle.draws.specs.declared.recorder.Table.{Table}
@@ -10,11 +9,11 @@ use Rattle.draws.specs.Draw.{after}
 
 -- the pairs recorded, the oldest first
 abbrev pub kept : Table → List Pair
-kept t = contents t.pairs
+kept t = take t.used t.pairs
 
 -- the free places
-unfoldable pub room : Table → ℕ
-room t = 256 - length (kept t)
+abbrev pub room : Table → ℕ
+room t = 256 - t.used
 
 -- a source of which at most `most` draws can be had
 abbrev pub limited : ℕ → Meaning → Meaning

@@ -3,7 +3,7 @@ ghost use Rattle.draws.specs.Sources.{generator, generator_below, next_state};
 
 use crate::{Draws, Refusal};
 
-// Numbers made from a state of 64 bits, as many as stated.
+/// Numbers made from a state of 64 bits, as many as stated.
 #[derive(Clone, Copy)]
 pub struct Generator {
     state: u64,
@@ -20,6 +20,7 @@ fn step(state: u64) -> u64
 }
 
 impl Generator {
+    /// A generator that starts from the state, and makes as many numbers as `supply` says.
     pub fn new(state: u64, supply: u64) -> Generator
         ensures { generator result.state result.left ≡ generator state supply }
     {

@@ -1,13 +1,14 @@
 ghost use Rattle.std.specs.Prelude.{◌≡◌, ◌-◌, ◌<◌, [], ◌∷◌, ◌++◌};
-ghost use Rattle.draws.specs.Draw.{drawn, after, replied, draw_reply};
+ghost use Rattle.draws.specs.Replies.{replied};
+ghost use Rattle.draws.specs.Draw.{drawn, after, reply_of};
 ghost use Rattle.draws.specs.Record.{kept, room, limited, limited_below, noted, source_after};
 
 use crate::{Draws, Refusal};
-use few::Few;
 
+// The most pairs of a table.
 const PLACES: usize = 256;
 
-// A bound drawn with, and its answer.
+/// A bound drawn with, and its answer: the number below it that was drawn.
 // Kept: of the shape of a reply by chance, and the answer is the number drawn, no code.
 #[derive(Clone, Copy, PartialEq, Eq, Debug)]
 pub struct Pair {
@@ -15,51 +16,56 @@ pub struct Pair {
     pub answer: u32,
 }
 
-// Up to 256 pairs, in the order in which they came.
+/// Up to 256 pairs, in the order in which they came.
 #[derive(Clone, Copy)]
 pub struct Table {
-    pairs: Few<Pair, PLACES>,
+    pairs: [Pair; PLACES],
+    used: usize,
 }
 
-#[tactic(auto, unfolding(crate::specs::Record::room))]
 impl Table {
+    /// A table with no pairs.
     pub fn new() -> Table
         ensures pairs { kept result ≡ [] }
         ensures all { room result ≡ 256 }
     {
+        let filler = Pair {
+            bound: 0,
+            answer: 0,
+        };
         Table {
-            pairs: Few::new(Pair {
-                bound: 0,
-                answer: 0,
-            }),
+            pairs: [filler; PLACES],
+            used: 0,
         }
     }
 
-    // How many places are free.
+    /// How many places are free.
     pub fn free(&self) -> u64
         ensures { result ≡ room self.now }
     {
-        self.pairs.room() as u64
+        PLACES.saturating_sub(self.used) as u64
     }
 
-    // The pairs recorded, the oldest first.
+    /// The pairs recorded, the oldest first.
     pub fn recorded(&self) -> &[Pair]
         ensures { result.now ≡ kept self.now }
     {
-        self.pairs.as_slice()
+        &self.pairs[..self.used.min(PLACES)]
     }
 
+    // Adds a pair where a place is free.
     // Kept: the answer is the number drawn, no code.
     fn note(&mut self, bound: u32, answer: u32)
         requires { 0 < room self.old }
         ensures pairs { kept self.new ≡ kept self.old ++ (record { bound = bound; answer = answer } ∷ []) }
         ensures less { room self.new ≡ room self.old - 1 }
     {
-        let _ = self.pairs.push(Pair { bound, answer });
+        self.pairs[self.used] = Pair { bound, answer };
+        self.used += 1;
     }
 }
 
-// Any source, with a table that keeps each bound drawn with and its answer.
+/// Any source, with a table that keeps each bound drawn with and its answer.
 #[derive(Drop)]
 pub struct Recorder<S> {
     source: S,
@@ -67,7 +73,7 @@ pub struct Recorder<S> {
 }
 
 impl<S> Recorder<S> {
-    // A recorder over the source, its table empty.
+    /// A recorder over the source, its table empty.
     pub fn new(source: S) -> Recorder<S>
         ensures over { result.source ≡ source }
         ensures empty { kept result.table ≡ [] }
@@ -79,7 +85,7 @@ impl<S> Recorder<S> {
         }
     }
 
-    // The source, and what was recorded.
+    /// The source, and what was recorded.
     pub fn into_parts(self) -> (S, Table)
         ensures { result ≡ (self.source, self.table) }
     {
@@ -99,7 +105,7 @@ impl<S: Draws> Draws for Recorder<S> {
 
     fn draw(&mut self, n: u32) -> Result<u32, Refusal>
         ensures reply { result ≡ drawn n (limited (room self.old.table) (S.Draws.meaning self.old.source)) }
-        ensures number { replied result ≡ draw_reply n (limited (room self.old.table) (S.Draws.meaning self.old.source)) }
+        ensures number { replied reply_of result ≡ replied reply_of (drawn n (limited (room self.old.table) (S.Draws.meaning self.old.source))) }
         ensures left { limited (room self.new.table) (S.Draws.meaning self.new.source) ≡ after n (limited (room self.old.table) (S.Draws.meaning self.old.source)) }
         ensures source { S.Draws.meaning self.new.source ≡ source_after n (room self.old.table) (S.Draws.meaning self.old.source) }
         ensures record { kept self.new.table ≡ noted n result (kept self.old.table) }

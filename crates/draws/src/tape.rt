@@ -3,14 +3,14 @@ ghost use Rattle.draws.specs.Sources.{tape, tape_below};
 
 use crate::{Draws, Refusal};
 
-// A list of numbers that is read from its start: those that are still unread.
+/// A list of numbers that is read from its start: those that are still unread.
 #[derive(Drop)]
 pub struct Tape<'a> {
     unread: &'a [u32],
 }
 
 impl<'a> Tape<'a> {
-    // The whole list, unread.
+    /// The whole list, unread.
     pub fn new(numbers: &'a [u32]) -> Tape<'a>
         ensures { tape result.unread.now 0 ≡ tape numbers.now 0 }
     {

@@ -24,18 +24,20 @@ impl Criterion {
         }
     }
 
+    /// Whether a series of that strike meets the criterion at that fixing price: by the price less the strike for a call, by
+    /// the strike less the price for a put.
     pub fn meets(self, right: Right, strike: u32, price: u32) -> bool
         ensures { result ≡ meets self right strike price }
     {
+        // In 128 bits, since a value times a strike may not fit 64 bits with a sign.
+        let (strike, price) = (i128::from(strike), i128::from(price));
         match (self, right) {
-            (Criterion::Percent(value), Right::Call) if strike <= price => {
-                u64::from(value) * u64::from(strike) <= u64::from(price - strike) * 10_000
-            }
-            (Criterion::Percent(value), Right::Put) if price <= strike => {
-                u64::from(value) * u64::from(strike) <= u64::from(strike - price) * 10_000
-            }
-            (Criterion::Amount(value), Right::Call) if strike <= price => value <= price - strike,
-            (Criterion::Amount(value), Right::Put) if price <= strike => value <= strike - price,
+            (Criterion::Percent(value), Right::Call)
+                if (price - strike) * 10_000 >= i128::from(value) * strike => true,
+            (Criterion::Percent(value), Right::Put)
+                if (strike - price) * 10_000 >= i128::from(value) * strike => true,
+            (Criterion::Amount(value), Right::Call) if price - strike >= i128::from(value) => true,
+            (Criterion::Amount(value), Right::Put) if strike - price >= i128::from(value) => true,
             _ => false,
         }
     }

@@ -1,7 +1,7 @@
 use book::Pass;
 use ledger::{Opening, PositionTransfer, Refusal, Trade};
 
-// A call of the input stage, with its fields.
+/// A call of the input stage, with its fields.
 // Kept: codes stay the archive's numbers, since a number that is no code is a call to be turned back.
 #[derive(Clone, Copy, Debug, PartialEq, Eq)]
 pub enum InputCall {
@@ -31,7 +31,7 @@ pub enum InputCall {
     TransferPosition(PositionTransfer),
 }
 
-// A call on requests, criteria, the fixing price or collateral, in the same stage.
+/// A call on requests, criteria, the fixing price or collateral, in the same stage.
 // Kept: codes stay the archive's numbers, as in `InputCall`.
 #[derive(Clone, Copy, Debug, PartialEq, Eq)]
 pub enum ExerciseCall {
@@ -68,7 +68,7 @@ pub enum ExerciseCall {
     CloseTrading,
 }
 
-// A call of a book that is open. A second opening is one too, and is always turned back.
+/// A call of a book that is open. A second opening is one too, and is always turned back.
 #[derive(Clone, Copy, Debug, PartialEq, Eq)]
 pub enum Call {
     Open(Opening),
@@ -80,7 +80,7 @@ pub enum Call {
     BeginDay(u32),
 }
 
-// What a call answers, with the pass that is good after it.
+/// What a call answers, with the pass that is good after it.
 #[derive(Drop)]
 pub struct Done {
     pub pass: Pass,

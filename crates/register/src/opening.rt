@@ -12,8 +12,7 @@ use ledger::{Opening, Refusal};
 /// makes of it then adds an entry.
 ///
 /// # Errors
-///
-/// `OutOfRange` where number, day, size or block is beyond its range.
+/// `OutOfRange`.
 #[tactic(auto, using(crate::proofs::BriefLaws::opening_brief, crate::proofs::RegisterLaws::empty_leads))]
 pub fn open(o: &Opening) -> Result<(Book, InputPass), Refusal>
     ensures reply { opened result ≡ open_call o.now }

@@ -179,9 +179,9 @@ fn dispatch<S: Draws>(
     }
 }
 
-// Makes any call under any pass; an assignment draws from the source, a statement is written into the list. A
-// register that leads to the book before leads, with this call's entry, to the book after, and the law holds of
-// every register.
+/// Makes any call under any pass; an assignment draws from the source, a statement is written into the list from its
+/// first place on. A register that leads to the book before leads, with this call's entry, to the book after, and the
+/// law holds of every register. A refusal stands in the reply, and leaves book, pass, source and list as they were.
 pub fn perform<S: Draws>(
     book: &mut Book,
     source: &mut S,

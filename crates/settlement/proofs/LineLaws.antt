@@ -1,14 +1,25 @@
 -- How many lines there are.
-use Rattle.std.proofs.Common.{◌≡◌, ℕ, zero, suc, ◌+◌, ◌-◌, ◌*◌, ◌≤◌, Bool, true, false, cond, eqb, List, [], ◌∷◌, ◌++◌, length, get_or, take, sym, refl, ap, ◌∙◌, add-one, arith, length-append}
+use Rattle.std.proofs.Common.{◌≡◌, ℕ, zero, suc, ◌+◌, ◌-◌, ◌*◌, ◌≤◌, Bool, true, false, cond, eqb, List, [], ◌∷◌, ◌++◌, length, get_or, take, sum_by, sym, refl, ap, ◌∙◌, add-one, arith, length-append}
 use Rattle.std.specs.List.{range_with_len, flat_map}
 use Rattle.std.proofs.lemmas.List.{flat_map_more, map-id, take_all}
 use Rattle.std.proofs.lemmas.List.Sums.{sum_by-cons, sum_by_more, sum_by-take-le}
 use Rattle.std.proofs.lemmas.List.FromFn.{map-range_with_len_more}
 use Rattle.positions.specs.declared.cell.Cell.{Cell}
+use Rattle.positions.specs.declared.kinds.Right.TheVariants.{Call}
 use Rattle.positions.specs.Cells.{no_cell}
 use Rattle.settlement.specs.declared.line.Line.{Line}
 use Rattle.settlement.specs.declared.line.SeriesTerms.{SeriesTerms}
-use Rattle.settlement.specs.Lines.{exercised_line, covered_line, uncovered_line, if_any, cell_lines, lines_of_first, series_lines, one_if_any, line_count, lines_needed}
+use Rattle.settlement.specs.Lines.{exercised_line, covered_line, uncovered_line, if_any, cell_lines, lines_of_first, series_lines}
+
+-- lines, counted without making them
+abbrev pub one_if_any : ℕ → ℕ
+one_if_any contracts = cond (eqb contracts 0) 0 1
+
+abbrev pub line_count : Cell → ℕ
+line_count c = one_if_any c.exercised + one_if_any c.covered + one_if_any (c.assigned - c.covered)
+
+abbrev pub lines_needed : List Cell → ℕ
+lines_needed cells = sum_by line_count cells
 
 one_or_none : {X : Type 0} (b : Bool) (x : X) → length (cond b [] (x ∷ [])) ≡ cond b 0 1
 one_or_none true x = refl
@@ -21,8 +32,11 @@ one_le : (b : Bool) → cond b 0 1 ≤ 1
 one_le true = omega arith
 one_le false = omega arith
 
+pub one_any_le : (contracts : ℕ) → one_if_any contracts ≤ 1
+one_any_le contracts = one_le (eqb contracts 0)
+
 pub line_count_le : (c : Cell) → line_count c ≤ 3
-line_count_le c = omega (arith, one_le (eqb c.exercised 0), one_le (eqb c.covered 0), one_le (eqb (c.assigned - c.covered) 0))
+line_count_le c = omega (arith, one_any_le c.exercised, one_any_le c.covered, one_any_le (c.assigned - c.covered))
 
 pub lines_needed_le : (cells : List Cell) → lines_needed cells ≤ 3 * length cells
 lines_needed_le [] = omega arith
@@ -55,5 +69,15 @@ module _ (t : SeriesTerms) where
   pub length_series : (cells : List Cell) → length (series_lines t cells) ≡ lines_needed cells
   length_series cells = length_first cells (length cells) (omega arith) ∙ ap lines_needed (take_all (length cells) cells (omega arith))
 
-  pub length_first_le : (cells : List Cell) (n : ℕ) → n ≤ length cells → length (lines_of_first n t cells) ≤ lines_needed cells
-  length_first_le cells n h = omega (arith, length_first cells n h, sum_by-take-le line_count cells n)
+  pub length_first_le : (cells : List Cell) (n : ℕ) → n ≤ length cells → length (lines_of_first n t cells) ≤ length (series_lines t cells)
+  length_first_le cells n h = omega (arith, length_first cells n h, length_series cells, sum_by-take-le line_count cells n)
+
+-- a count that is right whatever the terms
+counted_terms : SeriesTerms
+counted_terms = record { series = 0; right = Call; strike = 0; size = 0; settlement_day = 0 }
+
+pub account_counted : (c : Cell) (n : ℕ) → ((t : SeriesTerms) (account : ℕ) → n ≡ length (cell_lines t account c)) → n ≡ line_count c
+account_counted c n h = h counted_terms 0 ∙ length_cell counted_terms 0 c
+
+pub series_counted : (cells : List Cell) (n : ℕ) → ((t : SeriesTerms) → n ≡ length (series_lines t cells)) → n ≡ lines_needed cells
+series_counted cells n h = h counted_terms ∙ length_series counted_terms cells

@@ -1,7 +1,7 @@
 -- Lists written into a list from a place on.
 use Rattle.std.proofs.Common.{◌≡◌, ℕ, suc, ◌+◌, ◌<◌, ◌≤◌, List, [], ◌∷◌, ◌++◌, length, get_or, take, drop, set, sym, ap, ◌∙◌, append_assoc, append-nil, arith, length-append}
 use Rattle.std.specs.List.{flat_map}
-use Rattle.std.proofs.lemmas.List.{take_more}
+use Rattle.std.proofs.lemmas.List.{take_more, take-append-drop}
 use Rattle.std.proofs.lemmas.List.Folds.{length-flat_map-take}
 use Rattle.std.proofs.lemmas.Grind.{flat_map-append}
 use lib.Seq.{sets, sets-eq, length-sets}
@@ -16,6 +16,10 @@ module _ {X : Type 0} where
   sets_more d at (x ∷ xs) ys =
       let e : at + suc (length xs) ≡ suc at + length xs = omega arith in
       ap (λ (k : ℕ). sets (sets (set d at x) (suc at) xs) k ys) e ∙ sets_more (set d at x) (suc at) xs ys
+
+  -- nothing written
+  pub written_none : (d : List X) (at : ℕ) → d ≡ written d at []
+  written_none d at = let e : at + 0 ≡ at = omega arith in sym (take-append-drop at d) ∙ ap (λ (k : ℕ). take at d ++ drop k d) (sym e)
 
   pub written_one : (d : List X) (at : ℕ) (x : X) → at < length d → set d at x ≡ written d at (x ∷ [])
   written_one d at x h = as_sets d at (x ∷ []) (omega arith)

@@ -1,5 +1,5 @@
 -- The lines that a statement has of one series.
-use Rattle.std.specs.Prelude.{ℕ, ◌+◌, ◌-◌, ◌*◌, ◌≤◌, Bool, true, false, cond, List, [], ◌∷◌, ◌++◌, length, take, drop, sum_by, ◌==◌, slice_index_or}
+use Rattle.std.specs.Prelude.{ℕ, ◌+◌, ◌-◌, ◌*◌, ◌≤◌, Bool, true, false, cond, List, [], ◌∷◌, ◌++◌, length, take, drop, ◌==◌, slice_index_or}
 use Rattle.std.specs.List.{range_with_len, flat_map}
 use Rattle.positions.specs.declared.cell.Cell.{Cell}
 use Rattle.positions.specs.declared.kinds.Right.{Right}
@@ -70,16 +70,6 @@ lines_of_first n t cells = flat_map (λ i. cell_lines t (i + 1) (slice_index_or 
 
 abbrev pub series_lines : SeriesTerms → List Cell → List Line
 series_lines t cells = lines_of_first (length cells) t cells
-
--- how many lines that are
-abbrev pub one_if_any : ℕ → ℕ
-one_if_any contracts = cond (contracts == 0) 0 1
-
-abbrev pub line_count : Cell → ℕ
-line_count c = one_if_any c.exercised + one_if_any c.covered + one_if_any (c.assigned - c.covered)
-
-abbrev pub lines_needed : List Cell → ℕ
-lines_needed cells = sum_by line_count cells
 
 -- the list with xs from a place on, and the rest as it was
 abbrev pub written : {X : Type 0} → List X → ℕ → List X → List X

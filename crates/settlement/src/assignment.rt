@@ -8,6 +8,7 @@ ghost use Rattle.allocation.specs.Allocation.{refusal};
 ghost use Rattle.positions.specs.Cells.{no_cell};
 ghost use Rattle.settlement.specs.Account.{settled, at_end};
 ghost use Rattle.settlement.specs.Assignment.{total_due, shorts_of, draws_for, Assignable, cell_after, collateral_after, outcome_by};
+ghost use Rattle.settlement.specs.Laws.{AssignmentSettles, SeriesRestsOnAnswers};
 
 use crate::account::{AssignmentTerms, end_day};
 use allocation::allocate;
@@ -104,6 +105,8 @@ pub fn assign_series<S: Draws>(
     ensures cells { cells.new ≡ (outcome_by terms.now (S.meaning source.old) cells.old collateral.old).cells }
     ensures collateral { collateral.new ≡ (outcome_by terms.now (S.meaning source.old) cells.old collateral.old).collateral }
     ensures source { S.meaning source.new ≡ (outcome_by terms.now (S.meaning source.old) cells.old collateral.old).source }
+    ensures settles { AssignmentSettles }
+    ensures rests { SeriesRestsOnAnswers }
 {
     let exercised = total_exercised(cells);
     if exercised == 0 {

@@ -1,9 +1,11 @@
 // Kept: facts on the size, as `SeriesTerms` says.
 // Kept: facts on a cell: laws and definitions are of any cell, so it has no ghost field.
 // Kept: rows are numbered from 1.
-ghost use Rattle.std.specs.Prelude.{◌≡◌, ℕ, ◌+◌, ◌≤◌, [], ◌∷◌, length, slice_index_or};
+ghost use Rattle.std.specs.Prelude.{◌≡◌, ℕ, ◌+◌, ◌≤◌, [], ◌∷◌, length, if◌then◌else◌, ◌==◌, slice_index_or};
 ghost use Rattle.positions.specs.Cells.{no_cell};
-ghost use Rattle.settlement.specs.Lines.{exercised_line, covered_line, uncovered_line, if_any, cell_lines, series_lines, one_if_any, line_count, lines_needed, written, Countable};
+ghost use Rattle.settlement.specs.Lines.{exercised_line, covered_line, uncovered_line, if_any, cell_lines, series_lines, written, Countable};
+ghost use Rattle.settlement.specs.Laws.{LinesEven, LinesSmall, WorkedLines};
+ghost use Rattle.settlement.specs.declared.line.SeriesTerms.{SeriesTerms};
 
 use crate::line::{Line, Method, Role, SeriesTerms};
 use positions::Cell;
@@ -66,11 +68,14 @@ impl Writer<'_> {
 // Writes the lines of one series from a place on, and answers the place after them.
 // Kept: the place: the statement is written into a lent slice by place, as this project asks.
 pub fn write_series(lines: &mut [Line], at: usize, terms: &SeriesTerms, cells: &[Cell; 32]) -> usize
-    requires fits { at + lines_needed cells.now ≤ length lines.old }
+    requires fits { at + length (series_lines terms.now cells.now) ≤ length lines.old }
     requires counts { (j : ℕ) → Countable (slice_index_or cells.now j no_cell) }
     requires size { terms.now.size ≤ 10_000 }
-    ensures place { result ≡ at + lines_needed cells.now }
+    ensures place { result ≡ at + length (series_lines terms.now cells.now) }
     ensures after { lines.new ≡ written lines.old at (series_lines terms.now cells.now) }
+    ensures even { LinesEven }
+    ensures small { LinesSmall }
+    ensures worked { WorkedLines }
 {
     let mut writer = Writer { lines, at };
     for (i, cell) in cells.iter().enumerate() {
@@ -79,23 +84,25 @@ pub fn write_series(lines: &mut [Line], at: usize, terms: &SeriesTerms, cells: &
     writer.at
 }
 
+// How many lines there are of so many contracts.
 fn count_any(contracts: u32) -> usize
-    ensures { result ≡ one_if_any contracts }
+    ensures count { result ≡ (if contracts == 0 then 0 else 1) }
+    ensures few { result ≤ 1 }
 {
     usize::from(contracts > 0)
 }
 
-// How many lines one account has.
+// How many lines one account has, whatever its series and its number.
 fn count_account(cell: &Cell) -> usize
-    ensures { result ≡ line_count cell.now }
+    ensures { (t : SeriesTerms) (account : ℕ) → result ≡ length (cell_lines t account cell.now) }
 {
     let uncovered = cell.assigned.saturating_sub(cell.covered);
     count_any(cell.exercised) + count_any(cell.covered) + count_any(uncovered)
 }
 
-// How many lines a series has.
+/// How many lines a series with these cells has, whatever its terms.
 pub fn count_series(cells: &[Cell; 32]) -> usize
-    ensures { result ≡ lines_needed cells.now }
+    ensures { (t : SeriesTerms) → result ≡ length (series_lines t cells.now) }
 {
     cells.iter().map(count_account).sum()
 }

@@ -20,7 +20,7 @@ use Rattle.ledger.specs.declared.state.Stage.TheVariants.{Input}
 use Rattle.ledger.specs.declared.state.State.{State}
 use Rattle.ledger.specs.Tables.{cells_of, leg_of, with_cells, with_legs, leg_stepped}
 use Rattle.ledger.specs.Lookups.{has_account, has_leg}
-use Rattle.transfers.specs.Transfers.{cells_without, rebooking_of, still_there, room_for, transferred, transfer_checks, give_up_checks, given_up, confirms, take_up_checks, confirmed, rejected, taken_up}
+use Rattle.transfers.specs.Transfers.{without_in, rebooking_of, still_there, room_for, transferred, transfer_checks, give_up_checks, given_up, confirms, take_up_checks, confirmed, rejected, taken_up}
 use Rattle.ledger.specs.Sound.{Balanced, Waiting, ValidLeg, Facts}
 use Rattle.ledger.proofs.FactLaws.{Placed, account_placed, leg_valid}
 use Rattle.ledger.proofs.KeepLaws.{facts_cells, facts_legs}
@@ -56,6 +56,10 @@ rebook_even Sell cells from to e rest closed q lf lt h sum b =
     let r = sum_by-set (λ (c : Cell). c.shorts) cells from d no_cell lf in
     let k = placed_sell (set cells from d) to e q (omega (arith, length-set cells from d)) in
     omega (arith, l, r, unsold c rest closed h, k)
+
+-- the cells of the leg's series without it
+abbrev pub cells_without : State → Leg → List Cell
+cells_without s l = without_in (cells_of s (l.series - 1)) l
 
 module _ (s : State) (n account : ℕ) (f : Facts s) (input : s.stage ≡ Input) (m : Movable s n account) where
   abbrev l : Leg

@@ -29,9 +29,6 @@ rebooking_in cells l account = record {
 }
 
 -- the same in the cells of a book
-abbrev pub cells_without : State → Leg → List Cell
-cells_without s l = without_in (cells_of s (l.series - 1)) l
-
 abbrev pub rebooking_of : State → Leg → ℕ → Rebooking
 rebooking_of s l account = rebooking_in (cells_of s (l.series - 1)) l account
 

@@ -5,6 +5,7 @@ use Rattle.allocation.specs.Allocation.{refusal}
 use Rattle.positions.specs.Cells.{no_cell}
 use Rattle.settlement.specs.Assignment.{total_due, shorts_of, draws_for}
 use Rattle.settlement.proofs.Allocated.{due_few, sum_shorts, allocated, assigned_within, handed_out}
+use Rattle.settlement.proofs.AssignmentLaws.{series_settled, series_same}
 use Rattle.settlement.proofs.NothingDue.{none_cells, none_collateral, none_source}
 use Rattle.settlement.proofs.assignment.assign_series.Goals as goal
 
@@ -47,3 +48,16 @@ returns-clause-source g c =
     c.hand_out-used.ensures.drawn
     ∙ ap (λ (e : ℕ). behind_all (bounds (draws_needed e block) (sum c.list_shorts-shorts.result) block) m) c.total_exercised-exercised.ensures
     ∙ ap (λ (n : ℕ). behind_all (bounds (draws_for cells block) n block) m) (ap sum c.list_shorts-shorts.ensures ∙ sum_shorts cells)
+
+-- the theorems hold however the call returns
+pub returns-then-exercised-eq0-clause-settles : goal.returns-then-exercised-eq0-clause-settles
+returns-then-exercised-eq0-clause-settles g c = series_settled
+
+pub returns-then-exercised-eq0-clause-rests : goal.returns-then-exercised-eq0-clause-rests
+returns-then-exercised-eq0-clause-rests g c = series_same
+
+pub returns-clause-settles : goal.returns-clause-settles
+returns-clause-settles g c = series_settled
+
+pub returns-clause-rests : goal.returns-clause-rests
+returns-clause-rests g c = series_same

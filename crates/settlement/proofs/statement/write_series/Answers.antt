@@ -1,9 +1,17 @@
-use Rattle.std.proofs.Common.{◌≡◌, ◌+◌, ◌≤◌, length, get_or, ap, ◌∙◌, rules, arith, length-append}
+use Rattle.std.proofs.Common.{◌≡◌, ◌+◌, ◌≤◌, length, get_or, refl, ap, ◌∙◌, rules, arith, length-append}
 use Rattle.positions.specs.Cells.{no_cell}
 use Rattle.settlement.specs.Lines.{cell_lines, lines_of_first, series_lines, written}
-use Rattle.settlement.proofs.Written.{written_next, length_written}
+use Rattle.settlement.proofs.Written.{written_none, written_next, length_written}
 use Rattle.settlement.proofs.LineLaws.{first_more, length_first_le, length_series}
+use Rattle.settlement.proofs.EvenLaws.{lines_even, worked_lines}
+use Rattle.settlement.proofs.SmallLaws.{lines_small}
 use Rattle.settlement.proofs.statement.write_series.Goals as goal
+
+pub loop-i-init : goal.loop-i-init
+loop-i-init c = record { same_slice = refl; place = omega arith; after = written_none c.args.lines.now c.args.at }
+
+pub put_account-requires-clause-counts : goal.put_account-requires-clause-counts
+put_account-requires-clause-counts c = c.requires.counts c.loop-i.i
 
 pub put_account-requires-clause-fits : goal.put_account-requires-clause-fits
 put_account-requires-clause-fits c =
@@ -46,3 +54,12 @@ returns-clause-after c =
     let all : c.loop-i.i ≡ length cells = omega (arith, c.told-cells) in
     let whole : c.loop-i.writer.lines.now ≡ written c.args.lines.now c.args.at (series_lines t cells) = c.loop-i.invariant.after ∙ ap (λ n. written c.args.lines.now c.args.at (lines_of_first n t cells)) all in
     search (rules, whole)
+
+pub returns-clause-even : goal.returns-clause-even
+returns-clause-even c = lines_even
+
+pub returns-clause-small : goal.returns-clause-small
+returns-clause-small c = lines_small
+
+pub returns-clause-worked : goal.returns-clause-worked
+returns-clause-worked c = worked_lines

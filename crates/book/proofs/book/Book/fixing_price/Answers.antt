@@ -5,4 +5,4 @@ use Rattle.book.proofs.book.Book.fixing_price.Goals as goal
 pub invariant_of-self-inside : goal.invariant_of-self-inside
 invariant_of-self-inside c =
     let b = c.self.inside.ledger in
-    record { sound = sound_at _ _ c.fix_price.ensures (facts_fixed b.state c.args.price (facts b.state b.sound)) }
+    record { sound = sound_at _ _ c.fix_price.ensures (facts_fixed b.state _ (facts b.state b.sound)) }
