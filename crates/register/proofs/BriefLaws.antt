@@ -8,7 +8,6 @@ use Rattle.draws.specs.Meaning.{Meaning}
 use Rattle.positions.specs.declared.cell.Cell.{Cell}
 use Rattle.positions.specs.Cells.{no_cell}
 use Rattle.settlement.specs.Assignment.{total_due, draws_for}
-use Rattle.settlement.specs.Lines.{lines_needed}
 use Rattle.settlement.proofs.Allocated.{due_held}
 use Rattle.ledger.specs.declared.refusal.Refusal.{Refusal}
 use Rattle.ledger.specs.declared.refusal.Refusal.TheVariants.{PassMisfit, DrawsShort, StatementShort}
@@ -29,7 +28,7 @@ use Rattle.dayend.specs.Assignment.{needed}
 use Rattle.dayend.specs.Statement.{places_needed}
 use Rattle.dayend.specs.NextDay.{next_day_checks}
 use Rattle.ledger.specs.Sound.{Facts, Waiting}
-use Rattle.dayend.proofs.StatementLaws.{lines_few}
+use Rattle.dayend.proofs.StatementLaws.{places_few}
 use Rattle.book.specs.declared.pass.InputPass.{InputPass}
 use Rattle.book.specs.declared.pass.CutPass.{CutPass}
 use Rattle.book.specs.declared.pass.AssignedPass.{AssignedPass}
@@ -81,7 +80,7 @@ with_brief (Some r) n h b = b
 pub opening_brief : (o : Opening) → Brief (replied reply_of (result_unless (open_refusal o) 0))
 opening_brief o = with_brief (open_refusal o) 0 (lit< tt) (first_brief (open_checks o) refl)
 
--- ── the draws and the places that a sound book needs ──
+-- ── the draws that a sound book needs ──
 
 rows_sum : (f : Series → ℕ) (rows : List Series) → ((i : ℕ) → i < length rows → f (get_or rows i past_series) ≤ 101_000) → sum_by f rows ≤ 101_000 * length rows
 rows_sum f [] h = omega arith
@@ -100,12 +99,6 @@ needed_few s f =
     let d = due_held (cells_of s i) (λ j. held_in s.stage (get_or (cells_of s i) j no_cell) (f.waiting i j)) in
     omega (arith, div-le_self (total_due (cells_of s i) + (s.terms.block - 1)) s.terms.block, d, b.1.1, f.ranges.1.1) in
     omega (arith, rows_sum (λ (r : Series). draws_for r.cells s.terms.block) s.series.rows each, f.tables.1.1)
-
-places_few : (s : State) → Facts s → places_needed s < 100_000_000
-places_few s f =
-    let each : (i : ℕ) → i < length s.series.rows → lines_needed (cells_of s i) ≤ 101_000 =
-    λ i lt. let b = f.balanced i (omega (arith, f.tables.1.1)) in omega (arith, lines_few (cells_of s i) (omega (arith, b.0))) in
-    omega (arith, rows_sum (λ (r : Series). lines_needed r.cells) s.series.rows each, f.tables.1.1)
 
 -- ── every call ──
 
@@ -146,7 +139,7 @@ module _ (s : State) (f : Facts s) where
 
   statement_brief : (room : ℕ) (p : AssignedPass) → Brief (replied reply_of (result_unless (statement_refusal s p room) (places_needed s)))
   statement_brief room p =
-      let n = places_few s f in
+      let n : places_needed s < 100_000_000 = omega (arith, places_few s f) in
       with_brief (statement_refusal s p room) (places_needed s) n (short_brief (fits_assigned s p) (leb (places_needed s) room) (StatementShort (places_needed s)) (lt-ltb (places_needed s) 100_000_000 n))
 
   pub answer_brief : (m : Meaning) (room : ℕ) (p : Pass) (c : Call) → Brief (replied reply_of (answer s m room p c).reply)

@@ -21,13 +21,13 @@ use Rattle.ledger.specs.declared.state.Trade.{Trade}
 use Rattle.ledger.specs.declared.state.PositionTransfer.{PositionTransfer}
 use Rattle.ledger.specs.Tables.{new_series, no_contract, past_series, opening, row, cells_of, cell_at, leg_of, with_accounts, with_listing, with_legs, with_cells, one_account_more, one_series_more, leg_stepped}
 use Rattle.ledger.specs.Lookups.{has_leg}
-use Rattle.dealing.specs.Trades.{bought_cells, fill_of, buyer_leg, seller_leg, traded}
-use Rattle.transfers.specs.Transfers.{cells_without, rebooking_of, transferred, moved_cells, position_moved}
+use Rattle.dealing.specs.Trades.{fill_of, buyer_leg, seller_leg, traded}
+use Rattle.transfers.specs.Transfers.{rebooking_of, transferred, moved_cells, position_moved}
 use Rattle.ledger.specs.Sound.{Facts, ValidLeg, Balanced}
 use Rattle.ledger.proofs.FactLaws.{Placed, within_parts, account_placed, series_placed, leg_valid}
 use Rattle.ledger.proofs.KeepLaws.{all_same}
-use Rattle.dealing.proofs.TradeLaws.{Admitted}
-use Rattle.transfers.proofs.TransferLaws.{Movable}
+use Rattle.dealing.proofs.TradeLaws.{bought_cells, Admitted}
+use Rattle.transfers.proofs.TransferLaws.{cells_without, Movable}
 use Rattle.transfers.proofs.PositionLaws.{Transferable, receiver_same}
 use Rattle.register.specs.Balance.{Listed, Count, signed, added, moved, trade_counted, leg_given, leg_counted, position_counted}
 use Rattle.register.proofs.BalanceLaws.{Differs, differs_booked, differs_unbooked, differs_given, differs_received, added_else, moved_else, RowAgrees, row_added, Agrees, agrees_row, as_listed, legs_push, legs_set, legs_same, Tied}
