@@ -183,7 +183,7 @@ module _ (b : OpenBook) (taken : List ℕ) (used : ℕ) (a : List Written) (ps :
   sound = (always b.opening b.register truth).sound
 
   said : Says left c r
-  said = says here sound left 256 b.pass c
+  said = says here left 256 b.pass c
 
   follow : length r.lines ≤ length ps
   follow =

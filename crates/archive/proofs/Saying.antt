@@ -1,5 +1,5 @@
 -- What a call's answer says of the tape and of the statement lines.
-use Rattle.std.proofs.Common.{◌≡◌, ℕ, ◌≤◌, Bool, true, false, cond, List, [], length, drop, Some, None, Option, Result, sym, refl, ap, subst, arith}
+use Rattle.std.proofs.Common.{◌≡◌, ℕ, ◌≤◌, Bool, true, false, cond, List, [], length, drop, Some, None, Option, Result, sym, refl, ap, arith}
 use Rattle.std.proofs.lemmas.Bool.{cond-false}
 use Rattle.draws.specs.declared.Reply.{Reply}
 use Rattle.draws.specs.Replies.{is_accepted, replied}
@@ -12,10 +12,8 @@ use Rattle.ledger.specs.declared.refusal.Refusal.{Refusal}
 use Rattle.ledger.specs.declared.refusal.Refusal.TheVariants.{PassMisfit, OutOfRange, NoAccount, NoSeries, NoLeg, NoRequest, Expired, TradingClosed, WrongAccount, LegHeld, LegFree, NotExpiring, ListedAlready, NoFixingPrice, DayNotLater, DrawsShort, StatementShort, Full, TooFew, TooMany}
 use Rattle.ledger.specs.declared.state.State.{State}
 use Rattle.ledger.specs.Replies.{reply_of}
-use Rattle.ledger.specs.Sound.{Facts}
 use Rattle.dayend.specs.Assignment.{needed, assigning, assigned_state, assignment_checks}
-use Rattle.dayend.specs.Statement.{first_lines, statement_lines, places_needed}
-use Rattle.dayend.proofs.StatementLaws.{lines_length_all}
+use Rattle.dayend.specs.Statement.{statement_lines, places_needed}
 use Rattle.book.specs.declared.pass.Pass.{Pass}
 use Rattle.book.specs.declared.pass.Pass.TheVariants.{ForInput, ForCut, ForAssigned}
 use Rattle.book.specs.declared.pass.CutPass.{CutPass}
@@ -84,7 +82,7 @@ by_statement : (o : Option Refusal) (n : ℕ) (s : State) (p : Pass) (u : List �
 by_statement None n s p u xs e = unused u GiveStatement _ s p xs refl e
 by_statement (Some r) n s p u xs e = unused u GiveStatement _ s p [] (no_draws _) (sym (cond-false (is_accepted (reply_of r)) (reply_of r).result 0 (not_accepted r)))
 
-module _ (s : State) (f : Facts s) (u : List ℕ) (room : ℕ) where
+module _ (s : State) (u : List ℕ) (room : ℕ) where
   abbrev m : Meaning
   m = tape u 0
 
@@ -93,9 +91,6 @@ module _ (s : State) (f : Facts s) (u : List ℕ) (room : ℕ) where
       by_assignment (assignment_refusal s p m) (needed s) s (assigned_state s m) (ForCut p) (ForAssigned (assigned_pass p)) u (assigning s m).source
       (λ h. let c = unless_none (fits_cut s p) PassMisfit (first_refusal (assignment_checks s m)) h in let e = enough_draws s m c.1 in omega arith)
       (assigned_tape s u)
-
-  statement_size : length (statement_lines s) ≡ places_needed s
-  statement_size = subst (λ n. length (first_lines n s.terms.size s.day s.series.rows) ≡ places_needed s) f.tables.1.1 (lines_length_all s.terms.size s.day s.series.rows)
 
   pub says : (p : Pass) (c : Call) → Says u c (answer s m room p c)
   says (ForInput p) (Open o) = unused u (Open o) _ _ _ [] refl refl
@@ -117,5 +112,5 @@ module _ (s : State) (f : Facts s) (u : List ℕ) (room : ℕ) where
   says (ForAssigned p) (OfExercise c) = unused u (OfExercise c) _ _ _ [] refl refl
   says (ForAssigned p) CutOff = unused u CutOff _ _ _ [] refl refl
   says (ForAssigned p) Assign = unused u Assign _ _ _ [] refl refl
-  says (ForAssigned p) GiveStatement = by_statement (statement_refusal s p room) (places_needed s) s (ForAssigned p) u (statement_lines s) statement_size
+  says (ForAssigned p) GiveStatement = by_statement (statement_refusal s p room) (places_needed s) s (ForAssigned p) u (statement_lines s) refl
   says (ForAssigned p) (BeginDay day) = unused u (BeginDay day) _ _ _ [] (no_draws _) refl
