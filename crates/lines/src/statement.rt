@@ -21,7 +21,7 @@ fn are_short(numbers: &[u64; 10]) -> bool
     numbers.iter().all(|n| *n < LIMIT)
 }
 
-/// What one account has to give and to get in one series: shares, and money in cents.
+/// What one account has to give and to get in one series: contracts, shares, and money in thousandths of a dollar.
 // Kept: role and method are numbers, since a line that is read may have any of 16 digits there.
 #[derive(Clone, Copy, PartialEq, Eq, Debug)]
 pub struct StatementLine {
