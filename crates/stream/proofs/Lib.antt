@@ -1,0 +1,9 @@
+pub mod Ends
+pub mod Outcomes
+pub mod Putting
+pub mod Statements
+pub mod Told
+pub mod Streaming
+pub mod OneAnswers
+pub mod Laws
+pub mod Reading

@@ -1,0 +1,5 @@
+pub mod Pieces
+pub mod Outputs
+pub mod Inputs
+pub mod Streams
+pub mod Writers
