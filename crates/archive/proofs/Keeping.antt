@@ -1,6 +1,7 @@
 -- What is kept from line to line of an archive.
 use Rattle.std.proofs.Common.{◌≡◌, ℕ, ◌+◌, ◌-◌, ◌≤◌, Bool, true, false, cond, ltb, List, [], ◌∷◌, ◌++◌, length, take, drop, replicate, Some, None, Option, sym, refl, ap, ◌∙◌, subst, add-zero, append-nil, arith, length-append, length-drop}
 use Rattle.std.specs.List.{All}
+use Rattle.std.proofs.lemmas.List.Elements.{All-replicate}
 use Rattle.std.proofs.lemmas.Bool.{cond-false}
 use Rattle.std.proofs.lemmas.List.{drop-drop, drop-append-le, take_at}
 use Rattle.draws.specs.declared.Reply.{Reply}
@@ -33,7 +34,7 @@ use Rattle.host.specs.Numbers.{last}
 use Rattle.host.specs.Places.{empty_line}
 use Rattle.host.specs.Steps.{Shown, Step, opened_desk, start_step, stepped, call_step, make_on, instruction_step}
 use Rattle.host.specs.Hosts.{statements_after}
-use Rattle.host.proofs.Fitting.{written_fits, all_empty_fit}
+use Rattle.host.proofs.Fitting.{written_fits, fits_at}
 use Rattle.host.proofs.Following.{few_follow}
 use Rattle.archive.specs.Archive.{Written, number_in, draws_in, numbers_taken, numbers_used, OpenBook, begun, opened_by, with_asked, register_of, Reaches, Reached, NoneAccepted}
 use Rattle.archive.proofs.Saying.{not_accepted, used_by, Says, says}
@@ -245,4 +246,4 @@ abbrev pub Told : List Written → Shown → Type 0
 Told a h = Kept (register_of a) (numbers_taken a) (numbers_used a) a h
 
 pub first_told : Told [] (record { desk = None; unread = []; places = replicate 256 empty_line })
-first_told = record { book = refl; before = λ q. tt; within = omega arith; unread = refl; places = refl; fit = all_empty_fit 256 }
+first_told = record { book = refl; before = λ q. tt; within = omega arith; unread = refl; places = refl; fit = All-replicate Fits 256 empty_line (fits_at [] 0 (λ i d h. absurd (omega arith))) }
