@@ -27,13 +27,6 @@ impl<R: Read + Drop> Input<R> {
         }
     }
 
-    // Whether the reader has failed.
-    pub(crate) fn has_failed(&self) -> bool
-        ensures { result ≡ (in_of R.remaining self.now).failed }
-    {
-        self.failed
-    }
-
     // Reads the next bytes: none only at the end, or where they have no room.
     pub(crate) fn read(&mut self, buf: &mut [u8]) -> io::Result<usize>
         ensures bound { ReadsAtMost result buf.new }

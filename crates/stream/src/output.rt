@@ -1,4 +1,4 @@
-ghost use Rattle.std.specs.Prelude.{◌≡◌, ◌<◌, [], length, true, false, IfOk, OnOk, OnErr};
+ghost use Rattle.std.specs.Prelude.{◌≡◌, ◌<◌, [], length, true, false, IfOk, OnOk, OnErr, is_err};
 ghost use Rattle.lines.specs.Texts.{text_of};
 ghost use Rattle.stream.specs.Outputs.{out_of, Puts, Fails, Sends, Stops};
 
@@ -29,11 +29,14 @@ impl<W: Write + Drop> Output<W> {
         }
     }
 
-    // Whether the writer has failed.
-    pub(crate) fn has_failed(&self) -> bool
-        ensures { result ≡ (out_of W.contents self.now).failed }
+    // An error if the writer has failed.
+    pub(crate) fn check(&self) -> io::Result<()>
+        ensures { is_err result ≡ (out_of W.contents self.now).failed }
     {
-        self.failed
+        if self.failed {
+            return Err(io::Error::other("the output has failed"));
+        }
+        Ok(())
     }
 
     // The writer; what waits is let go.

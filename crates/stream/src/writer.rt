@@ -47,10 +47,6 @@ fn write_statements<W: Write + Drop>(
     Ok(())
 }
 
-fn has_failed() -> io::Error {
-    io::Error::other("the output has failed")
-}
-
 impl<W: Write + Drop> ArchiveWriter<W> {
     /// No book, and no input yet.
     pub fn new(output: W) -> ArchiveWriter<W>
@@ -136,9 +132,7 @@ impl<W: Write + Drop> ArchiveWriter<W> {
 
         ensures laws { StreamLaws }
     {
-        if self.output.has_failed() {
-            return Err(has_failed());
-        }
+        self.output.check()?;
         self.take_lines(piece)
     }
 
@@ -170,9 +164,7 @@ impl<W: Write + Drop> ArchiveWriter<W> {
 
         ensures laws { StreamLaws }
     {
-        if self.output.has_failed() {
-            return Err(has_failed());
-        }
+        self.output.check()?;
         self.end_line()
     }
 
@@ -188,9 +180,7 @@ impl<W: Write + Drop> ArchiveWriter<W> {
 
         ensures laws { StreamLaws }
     {
-        if self.output.has_failed() {
-            return Err(has_failed());
-        }
+        self.output.check()?;
         let mut buf = [0u8; 65_536];
         'pieces: loop {
             let n = input.read(&mut buf)?;

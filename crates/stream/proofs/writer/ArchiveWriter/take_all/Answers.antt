@@ -9,7 +9,7 @@ use Rattle.stream.proofs.writer.ArchiveWriter.take_all.Goals as goal
 pub pieces-init : goal.pieces-init
 pieces-init g c = record {
   size = refl;
-  able = sym c.has_failed.ensures ∙ c.if-has_failed.false;
+  able = sym c.in_ok-check.ensures;
   silent = λ h. (refl, refl);
   taken = ([], Consumes-nil _, takes_nothing (seen g.W.Write.contents c.args.self.now));
 }
