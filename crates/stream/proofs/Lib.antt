@@ -7,3 +7,4 @@ pub mod Streaming
 pub mod OneAnswers
 pub mod Laws
 pub mod Reading
+pub mod Worked

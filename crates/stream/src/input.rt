@@ -10,7 +10,8 @@ use std::io::{ErrorKind, Read};
 #[derive(Drop)]
 pub struct Input<R: Read + Drop> {
     reader: R,
-    // How often it may still be read: no input comes to the end of this count, by which every loop over reads ends.
+    // How often it may still be read, by which every loop over reads ends: from 2^64 - 1 down, more than any input takes.
+    // At its end the input counts as failed.
     reads_left: u64,
     failed: bool,
 }

@@ -54,8 +54,8 @@ impl<W: Write + Drop> Output<W> {
         self.failed = true;
     }
 
-    // Writes some of what waits, of which the first bytes are sent already. Here, and where the writer is flushed, is
-    // the only place where it fails.
+    // Writes some of what waits, of which the first bytes are sent already. It fails here and
+    // where the writer is flushed, and nowhere else.
     fn send_some(&mut self, sent: usize) -> io::Result<usize>
         requires { sent < length (out_of W.contents self.old).waiting }
         ensures ok { IfOk result (Sends (out_of W.contents self.old) sent (out_of W.contents self.new)) }

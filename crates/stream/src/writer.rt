@@ -17,7 +17,7 @@ use std::io::{Read, Write};
 
 /// A day book's host between its input, which comes in pieces of any sizes, and the archive that is written of it. Of a
 /// line that has not ended the first bytes are kept, as many as a text holds: more than any input line has. Once the
-/// writer has failed, every call is an error and changes nothing.
+/// writer has failed, every call that takes or ends is an error and changes nothing.
 #[derive(Drop)]
 pub struct ArchiveWriter<W: Write + Drop> {
     host: Host,
@@ -60,7 +60,7 @@ impl<W: Write + Drop> ArchiveWriter<W> {
         }
     }
 
-    // Writes the answer to one line, of which at least as many bytes are given as a text holds.
+    // Writes the answer to one line, which is given whole, or by as many of its first bytes as a text holds.
     fn answer(&mut self, line: &[u8]) -> io::Result<()>
         ensures ok { (w : List ℕ) → Shows line.now w → OnOk result (Adds (seen W.contents self.old) w (seen W.contents self.new)) }
         ensures err { (w : List ℕ) → Shows line.now w → OnErr result (AddsFront (seen W.contents self.old) w (seen W.contents self.new)) }
@@ -118,15 +118,16 @@ impl<W: Write + Drop> ArchiveWriter<W> {
         self.begun.push_all(rest);
         self.output.flush()
     }
-    /// Takes the next bytes of the input: the lines that end in them are answered, and their answers have gone to the
-    /// writer, and been flushed, when it returns.
+
+    /// Takes the next bytes of the input: the lines that end in them are answered. Without an error, their answers have
+    /// gone to the writer, which was flushed, when it returns.
     #[tactic(auto, using(crate::proofs::Laws::stream_laws))]
     pub fn take(&mut self, piece: &[u8]) -> io::Result<()>
         ensures ok { OnOk result (Takes (seen W.contents self.old) piece.now (seen W.contents self.new)) }
         ensures err { OnErr result (Breaks (seen W.contents self.old) piece.now (seen W.contents self.new)) }
         ensures flushed { OnOk result ((seen W.contents self.new).out.waiting ≡ []) }
 
-        // There is no error but the writer's, and after one there is no other answer.
+        // A call is an error exactly where the writer counts as failed, and then every later one is too.
         ensures failed { (seen W.contents self.new).out.failed ≡ is_err result }
         ensures silent { (seen W.contents self.old).out.failed ≡ true → IsErr result × (seen W.contents self.new ≡ seen W.contents self.old) }
 
@@ -174,7 +175,7 @@ impl<W: Write + Drop> ArchiveWriter<W> {
         ensures ok { OnOk result ((more : List ℕ) × Consumes (in_of R.remaining input.old).left (in_of R.remaining input.new).left more × IsAtEnd (in_of R.remaining input.new).left × Takes (seen W.contents self.old) more (seen W.contents self.new)) }
         ensures err { OnErr result ((more : List ℕ) × Consumes (in_of R.remaining input.old).left (in_of R.remaining input.new).left more × (Takes (seen W.contents self.old) more (seen W.contents self.new) ⊎ Breaks (seen W.contents self.old) more (seen W.contents self.new))) }
 
-        // There is no error but the reader's and the writer's, and after one there is no other answer.
+        // A call is an error exactly where the reader or the writer counts as failed; then so is every later one with them.
         ensures failed { ((seen W.contents self.new).out.failed || (in_of R.remaining input.new).failed) ≡ is_err result }
         ensures silent { ((seen W.contents self.old).out.failed || (in_of R.remaining input.old).failed) ≡ true → IsErr result × (seen W.contents self.new ≡ seen W.contents self.old) × (in_of R.remaining input.new ≡ in_of R.remaining input.old) }
 

@@ -13,7 +13,11 @@ fn the_input_cut_anywhere_has_one_text(rt: HostRuntime) -> Result<(), Fail> {
         archive.take(front)?;
         archive.take(rest)?;
         archive.end()?;
-        assert_eq!(rt; archive.into_inner().as_slice(), text.as_slice(), "cut at {cut}");
+        assert_eq!(rt;
+            archive.into_inner().as_slice(),
+            text.as_slice(),
+            "cut at {cut}"
+        );
     }
     Ok(())
 }
@@ -40,7 +44,10 @@ fn bytes_come_one_by_one(rt: HostRuntime) -> Result<(), Fail> {
         archive.take(&[*byte])?;
     }
     archive.end()?;
-    assert_eq!(rt; archive.into_inner().as_slice(), text(rt.alloc())?.as_slice());
+    assert_eq!(rt;
+        archive.into_inner().as_slice(),
+        text(rt.alloc())?.as_slice()
+    );
     Ok(())
 }
 

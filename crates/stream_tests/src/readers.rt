@@ -19,7 +19,11 @@ fn a_reader_fails_anywhere(rt: HostRuntime) -> Result<(), Fail> {
         assert!(rt; archive.take_all(&mut failing).is_err(), "at {cut}");
         assert!(rt; archive.answer_all(&mut failing).is_err(), "at {cut}");
         archive.answer_all(&mut Input::new(&mut reader))?;
-        assert_eq!(rt; archive.into_inner().as_slice(), text.as_slice(), "at {cut}");
+        assert_eq!(rt;
+            archive.into_inner().as_slice(),
+            text.as_slice(),
+            "at {cut}"
+        );
     }
     Ok(())
 }
@@ -31,9 +35,16 @@ fn what_was_read_before_an_error_is_answered(rt: HostRuntime) -> Result<(), Fail
         let mut reader = Flaky::new(&input, 9);
         reader.cut = Some(cut);
         let mut archive = ArchiveWriter::new(Vec::new(rt.alloc()));
-        assert!(rt; archive.answer_all(&mut Input::new(reader)).is_err(), "at {cut}");
+        assert!(rt;
+            archive.answer_all(&mut Input::new(reader)).is_err(),
+            "at {cut}"
+        );
         let text = text_so_far(rt.alloc(), cut)?;
-        assert_eq!(rt; archive.into_inner().as_slice(), text.as_slice(), "at {cut}");
+        assert_eq!(rt;
+            archive.into_inner().as_slice(),
+            text.as_slice(),
+            "at {cut}"
+        );
     }
     Ok(())
 }
@@ -48,7 +59,11 @@ fn a_reader_is_interrupted_anywhere(rt: HostRuntime) -> Result<(), Fail> {
         reader.kind = ErrorKind::Interrupted;
         let mut archive = ArchiveWriter::new(Vec::new(rt.alloc()));
         archive.answer_all(&mut Input::new(reader))?;
-        assert_eq!(rt; archive.into_inner().as_slice(), text.as_slice(), "at {cut}");
+        assert_eq!(rt;
+            archive.into_inner().as_slice(),
+            text.as_slice(),
+            "at {cut}"
+        );
     }
     Ok(())
 }

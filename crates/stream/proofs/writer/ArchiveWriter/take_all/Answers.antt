@@ -28,6 +28,8 @@ pieces-preserved g c =
 
 pub returns-in_err-take-clause-err : goal.returns-in_err-take-clause-err
 returns-in_err-take-clause-err g c =
-    let t = c.pieces.invariant.taken in
-    on_err_any c.from_residual-in_err-take.result
-    (t.0 ++ _, Consumes-trans _ _ _ t.0 _ t.1 c.in_ok-n.ensures.bytes.0, inr (takes_break (seen g.W.Write.contents c.args.self.now) (seen g.W.Write.contents c.pieces.self) _ t.0 _ t.2 c.in_err-take.ensures.err))
+    on_err_any c.from_residual-in_err-take.result (
+      c.pieces.invariant.taken.0 ++ _,
+      Consumes-trans _ _ _ c.pieces.invariant.taken.0 _ c.pieces.invariant.taken.1 c.in_ok-n.ensures.bytes.0,
+      inr (takes_break (seen g.W.Write.contents c.args.self.now) (seen g.W.Write.contents c.pieces.self) _ c.pieces.invariant.taken.0 _ c.pieces.invariant.taken.2 c.in_err-take.ensures.err),
+    )
