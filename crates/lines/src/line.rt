@@ -100,9 +100,9 @@ pub struct Filled<'a> {
     pub result: &'a [u8],
 }
 
-// The input line of a kind, with its fields from the front of `f`; none for a number that is no kind of input lines.
+/// The input line of a kind, with its fields from the front of `f`; none for a number that is no kind of input lines.
 // Kept: any number may be given, by its promise; an enum of kinds would ask the caller for a known one.
-pub(crate) fn line_of<'a>(kind: u8, f: &[&'a [u8]; 7]) -> Option<Line<'a>>
+pub fn line_of<'a>(kind: u8, f: &[&'a [u8]; 7]) -> Option<Line<'a>>
     ensures { Made kind f.now result }
 {
     Some(match kind {
@@ -187,8 +187,8 @@ pub(crate) fn line_of<'a>(kind: u8, f: &[&'a [u8]; 7]) -> Option<Line<'a>>
 }
 
 impl Line<'_> {
-    // The number of the line's kind.
-    pub(crate) fn kind(&self) -> u8
+    /// The number of the line's kind.
+    pub fn kind(&self) -> u8
         ensures { result ≡ kind_of self.now }
     {
         match self {
@@ -218,8 +218,8 @@ impl Line<'_> {
 }
 
 impl Filled<'_> {
-    // The number of the line's kind: 99 where it stands for a faulty input line.
-    pub(crate) fn kind(&self) -> u8
+    /// The number of the line's kind: 99 where it stands for a faulty input line.
+    pub fn kind(&self) -> u8
         ensures { result ≡ kind_in self.now.line }
     {
         match &self.line {
@@ -239,9 +239,9 @@ fn place<'a>(out: &mut [&'a [u8]; 7], fields: &[&'a [u8]]) -> usize
     fields.len()
 }
 
-// Puts the fields of a line at the front of `out`, and answers how many they are.
+/// Puts the fields of a line at the front of `out`, and answers how many they are.
 // Kept: the count beside the array, since its promise is of what `out` holds; `fields_in` gives the fields alone.
-fn fields_into<'a>(line: &Line<'a>, out: &mut [&'a [u8]; 7]) -> usize
+pub fn fields_into<'a>(line: &Line<'a>, out: &mut [&'a [u8]; 7]) -> usize
     ensures few { result ≤ 7 }
     ensures placed { map (λ f. f.now) (take result out.new) ≡ parts_of line.now }
 {
@@ -324,8 +324,8 @@ fn fields_into<'a>(line: &Line<'a>, out: &mut [&'a [u8]; 7]) -> usize
     }
 }
 
-// The fields of a line, in `out`.
-pub(crate) fn fields_in<'b, 'a>(line: &Line<'a>, out: &'b mut [&'a [u8]; 7]) -> &'b [&'a [u8]]
+/// The fields of a line, in `out`.
+pub fn fields_in<'b, 'a>(line: &Line<'a>, out: &'b mut [&'a [u8]; 7]) -> &'b [&'a [u8]]
     ensures few { length result.now ≤ 7 }
     ensures placed { map (λ f. f.now) result.now ≡ parts_of line.now }
 {

@@ -33,8 +33,8 @@ impl Numbers {
         self.values.as_slice()
     }
 
-    // Appends a number, if there is room.
-    pub(crate) fn push(&mut self, n: u32)
+    /// Appends a number, if there is room.
+    pub fn push(&mut self, n: u32)
         ensures { list_of self.new ≡ nine (list_of self.old ++ (n ∷ [])) }
     {
         let _ = self.values.push(n);
@@ -53,8 +53,8 @@ fn values(fields: &[&[u8]]) -> Option<Numbers>
 }
 
 impl Line<'_> {
-    // The numbers of the line's fields; none where one is no number of a line.
-    pub(crate) fn numbers(&self) -> Option<Numbers>
+    /// The numbers of the line's fields; none where one is no number of a line.
+    pub fn numbers(&self) -> Option<Numbers>
         ensures { MatchOption result (AllByRecursion (IsNumber 8) (parts_of self.now) → ⊥) (λ n. AllByRecursion (IsNumber 8) (parts_of self.now) × (list_of n ≡ numbers_of self.now)) }
     {
         let mut out: [&[u8]; 7] = [&[]; 7];
@@ -63,8 +63,8 @@ impl Line<'_> {
 }
 
 impl Filled<'_> {
-    // The numbers of the line's fields, as of an input line.
-    pub(crate) fn numbers(&self) -> Option<Numbers>
+    /// The numbers of the line's fields, as of an input line; none of the line of a faulty one.
+    pub fn numbers(&self) -> Option<Numbers>
         ensures { MatchOption result (AllByRecursion (IsNumber 8) (parts_in self.now.line) → ⊥) (λ n. AllByRecursion (IsNumber 8) (parts_in self.now.line) × (list_of n ≡ numbers_in self.now.line)) }
     {
         match &self.line {

@@ -36,8 +36,8 @@ impl Text {
         self.bytes.clear();
     }
 
-    // Appends a byte, if there is room.
-    pub(crate) fn push(&mut self, b: u8)
+    /// Appends a byte, if there is room.
+    pub fn push(&mut self, b: u8)
         ensures { text_of self.new ≡ cut (text_of self.old ++ (b ∷ [])) }
     {
         let _ = self.bytes.push(b);
@@ -61,8 +61,9 @@ impl Text {
         self.push(b'0' + (n % 10) as u8);
     }
 
-    // Appends the writing of a number; most have one digit or two, which is done at once for speed.
-    pub(crate) fn push_number(&mut self, n: u64)
+    /// Appends the digits of a number, as many as there is room for.
+    // Most have one digit or two, which is done at once for speed.
+    pub fn push_number(&mut self, n: u64)
         ensures { text_of self.new ≡ cut (text_of self.old ++ decimal n) }
     {
         if n < 10 {

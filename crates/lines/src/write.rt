@@ -1,11 +1,17 @@
 // Writing input lines and filled lines.
-ghost use Rattle.std.specs.Prelude.{◌≡◌, ◌++◌, decimal};
-ghost use Rattle.lines.specs.Lines.{before_feed, fields_text, answer_text, faulty, faulty_line, input_line, filled_line};
-ghost use Rattle.lines.specs.Texts.{text_of, cut};
+ghost use Rattle.std.specs.Prelude.{◌≡◌, [], ◌++◌, decimal, Some, Decides};
+ghost use Rattle.std.specs.List.{AllByRecursion};
+ghost use Rattle.lines.specs.Kinds.{arity, kinds_of, Short};
+ghost use Rattle.lines.specs.Lines.{before_feed, fields_text, answer_text, faulty, faulty_line, input_line, filled_line, InputLine, FilledLine};
+ghost use Rattle.lines.specs.Texts.{text_of, cut, WrittenAs};
 
+use super::kinds::{Sort, fields_of, kinds_of};
 use super::numerals::push_numbers;
 use super::text::Text;
 use draws::Reply;
+
+// A number of an archive line has at most 8 digits.
+const LIMIT: u32 = 100_000_000;
 
 // The reply to a faulty input line, by the length of its longest start that begins a line.
 fn faulty_reply(length: u32) -> Reply
@@ -98,4 +104,53 @@ pub(crate) fn filled_text(kind: u8, numbers: &[u32], reply: Reply) -> Text
     let mut text = start_text(kind, numbers);
     push_answer(&mut text, reply);
     text
+}
+
+// Whether each number has at most 8 digits.
+fn are_short(numbers: &[u32]) -> bool
+    ensures { Decides result (AllByRecursion (Short 8) numbers.now) }
+{
+    numbers.iter().all(|n| *n < LIMIT)
+}
+
+// Whether the reply's number and its result have at most 8 digits.
+fn is_short(reply: Reply) -> bool
+    ensures { Decides result (Short 8 reply.number × Short 8 reply.result) }
+{
+    reply.number < LIMIT && reply.result < LIMIT
+}
+
+// Whether lines of the sort have the kind, with so many fields.
+fn is_known(sort: Sort, kind: u8, fields: usize) -> bool
+    ensures { Decides result (arity (kinds_of sort) kind ≡ Some fields) }
+{
+    fields_of(kinds_of(sort), kind) == Some(fields)
+}
+
+/// The input line of a kind with these numbers; none where there is no such line.
+pub fn write_input_numbers(kind: u8, fields: &[u32]) -> Option<Text>
+    ensures { WrittenAs result (InputLine kind fields.now) }
+{
+    if !is_known(Sort::Input, kind, fields.len()) || !are_short(fields) {
+        return None;
+    }
+    Some(input_text(kind, fields))
+}
+
+/// The filled line of a kind with these numbers and that reply; none where there is no such line.
+pub fn write_numbers(kind: u8, fields: &[u32], reply: Reply) -> Option<Text>
+    ensures { WrittenAs result (FilledLine kind fields.now reply.number reply.result) }
+{
+    if !is_known(Sort::Filled, kind, fields.len()) || !are_short(fields) || !is_short(reply) {
+        return None;
+    }
+    Some(filled_text(kind, fields, reply))
+}
+
+/// The filled line of a faulty input line, by the length of its longest start that begins a line; none where that length
+/// has more than 8 digits.
+pub fn write_faulty(length: u32) -> Option<Text>
+    ensures { WrittenAs result (FilledLine 99 [] 2 length) }
+{
+    write_numbers(99, &[], faulty_reply(length))
 }

@@ -2,7 +2,7 @@
 use draws::Reply;
 use lines::{
     Line, Row, Sort, StatementLine, Text, fill, fill_faulty, find, number, read_filled, read_input,
-    read_statement, rewrite, write_statement,
+    read_statement, rewrite, write_faulty, write_input_numbers, write_numbers, write_statement,
 };
 use std::test::Fail;
 
@@ -129,6 +129,55 @@ fn filled_of_a_faulty_line(rt: HostRuntime) -> Result<(), Fail> {
     };
     assert_eq!(rt; again.kind, 99);
     assert!(rt; again.numbers.as_slice() == [2, 66].as_slice());
+    Ok(())
+}
+
+#[test]
+fn no_such_line(rt: HostRuntime) {
+    assert!(rt; Line::FixingPrice { price: b"05" }.numbers().is_none());
+    assert!(rt; write_numbers(Line::Cut.kind(), &[], answer(100_000_000, 0)).is_none());
+    assert!(rt; write_numbers(Line::Cut.kind(), &[], answer(0, 100_000_000)).is_none());
+    assert!(rt; write_faulty(100_000_000).is_none());
+    assert!(rt; write_numbers(14, &[1], answer(0, 0)).is_none());
+    assert!(rt; write_numbers(24, &[], answer(0, 0)).is_none());
+    assert!(rt; write_numbers(24, &[100_000_000], answer(0, 0)).is_none());
+    assert!(rt; write_input_numbers(99, &[]).is_none());
+}
+
+#[test]
+fn from_numbers(rt: HostRuntime) -> Result<(), Fail> {
+    let faulty = write_faulty(66).ok_or("no text")?;
+    assert!(rt; faulty.as_bytes() == b"99 : 2 66\n".as_slice());
+    let filled = write_numbers(15, &[3, 99_999_999], answer(10, 0)).ok_or("no text")?;
+    assert!(rt; filled.as_bytes() == b"15 3 99999999 : 10 0\n".as_slice());
+    let input = write_input_numbers(27, &[]).ok_or("no text")?;
+    assert!(rt; input.as_bytes() == b"27\n".as_slice());
+    Ok(())
+}
+
+#[test]
+fn numbers_of_a_trade(rt: HostRuntime) -> Result<(), Fail> {
+    let Ok(line) = read_input(b"13 1 2 3 4 5 6 1200\n") else {
+        return Err(Fail::new("no line"));
+    };
+    assert_eq!(rt; line.kind(), 13);
+    let numbers = line.numbers().ok_or("no numbers")?;
+    assert!(rt; numbers.as_slice() == [1, 2, 3, 4, 5, 6, 1200].as_slice());
+    let text = write_numbers(13, numbers.as_slice(), answer(0, 9)).ok_or("no text")?;
+    assert!(rt; text.as_bytes() == b"13 1 2 3 4 5 6 1200 : 0 9\n".as_slice());
+    Ok(())
+}
+
+#[test]
+fn no_such_answer(rt: HostRuntime) {
+    assert!(rt; write_numbers(28, &[], answer(100_000_000, 0)).is_none());
+    assert!(rt; write_numbers(28, &[], answer(0, 100_000_000)).is_none());
+}
+
+#[test]
+fn faulty_from_numbers(rt: HostRuntime) -> Result<(), Fail> {
+    let faulty = write_numbers(99, &[], answer(2, 66)).ok_or("no text")?;
+    assert!(rt; faulty.as_bytes() == b"99 : 2 66\n".as_slice());
     Ok(())
 }
 
