@@ -126,16 +126,16 @@ fn filled(text: &mut Text, line: &[u8], res: u32) -> Option<u64> {
 pub extern "C" fn lines_bench(buffer: &[u8], res: u32) -> u64 {
     let mut text = Text::new();
     let mut all: u64 = 0;
-    for line in buffer.split_inclusive(|b| *b == b'\n') {
-        if !line.ends_with(b"\n") {
-            continue;
-        }
-        if let Some(numbers) = filled(&mut text, line, res) {
+    let mut start = 0;
+    while let Some(feed) = buffer[start..].iter().position(|b| *b == b'\n') {
+        let end = start + feed + 1;
+        if let Some(numbers) = filled(&mut text, &buffer[start..end], res) {
             all = all
                 .wrapping_mul(31)
                 .wrapping_add(checksum(text.as_bytes()))
                 .wrapping_add(numbers);
         }
+        start = end;
     }
     all
 }
