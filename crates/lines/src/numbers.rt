@@ -63,7 +63,7 @@ impl Line<'_> {
 }
 
 impl Filled<'_> {
-    /// The numbers of the line's fields, as of an input line; none of the line of a faulty one.
+    /// The numbers of the line's fields, as of an input line; an empty list for the line of a faulty one.
     pub fn numbers(&self) -> Option<Numbers>
         ensures { MatchOption result (AllByRecursion (IsNumber 8) (parts_in self.now.line) → ⊥) (λ n. AllByRecursion (IsNumber 8) (parts_in self.now.line) × (list_of n ≡ numbers_in self.now.line)) }
     {

@@ -102,6 +102,7 @@ fn filled(rt: HostRuntime) -> Result<(), Fail> {
     let Ok(read) = read_filled(text) else {
         return Err(Fail::new("no line"));
     };
+    assert_eq!(rt; read.kind(), 24);
     let Some(Line::FixingPrice { price }) = read.line else {
         return Err(Fail::new("another kind"));
     };
