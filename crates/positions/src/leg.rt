@@ -6,7 +6,7 @@ use crate::cell::Cell;
 use crate::kinds::{Effect, Side};
 
 // A leg is free, or held for a participant that may take it up.
-// Kept: state and event meet in one match, as this project asks; rule and laws name both, an Option has no names.
+// Kept: state and event meet in one match, a case for each pair; rule and laws name both, an Option has no names.
 #[derive(Clone, Copy, Debug, PartialEq, Eq)]
 pub enum LegState {
     Free,

@@ -26,7 +26,7 @@ fn lines_of(terms: &SeriesTerms, account: u32, cell: &Cell) -> [Line; 3]
 }
 
 // A slice of lines, and the place of the next line in it.
-// Kept: the place: the statement is written into a lent slice by place, as this project asks.
+// Kept: the place: series after series goes into one lent slice, each from the place behind the last.
 #[derive(Drop)]
 struct Writer<'a> {
     lines: &'a mut [Line],
@@ -66,7 +66,7 @@ impl Writer<'_> {
 }
 
 /// Writes the lines of one series from a place on, and answers the place after them.
-// Kept: the place: the statement is written into a lent slice by place, as this project asks.
+// Kept: the place: series after series goes into one lent slice, each from the place behind the last.
 pub fn write_series(lines: &mut [Line], at: usize, terms: &SeriesTerms, cells: &[Cell; 32]) -> usize
     requires fits { at + length (series_lines terms.now cells.now) ≤ length lines.old }
     requires counts { (j : ℕ) → Countable (slice_index_or cells.now j no_cell) }
